@@ -1,0 +1,81 @@
+-- The vocabulary of binary64, Rust's f64: the operators, the constants, and the functions that the code stands in for.
+-- A `Float` is `nan`, an infinity `inf s`, or the number `fin s m e`, which is m * 2 ^ e, negative where s is true; zero keeps its sign.
+-- Assumes nothing.
+use mathlib.Core.Bool.{Bool, true, false, cond}
+use lib.Ieee.{Float, nan, inf, fin, binary64, add, sub, mul, div, lt, isNan, ofBits}
+
+-- ---- operators: Rust's `+`, `-`, `*`, `/` on f64, each the exact result rounded once
+
+infixl 60 _⊕_ _⊖_
+infixl 70 _⊗_ _⊘_
+-- Rust's `x + y`
+abbrev pub _⊕_ : Float → Float → Float
+x ⊕ y = add binary64 x y
+
+-- Rust's `x - y`
+abbrev pub _⊖_ : Float → Float → Float
+x ⊖ y = sub binary64 x y
+
+-- Rust's `x * y`
+abbrev pub _⊗_ : Float → Float → Float
+x ⊗ y = mul binary64 x y
+
+-- Rust's `x / y`
+abbrev pub _⊘_ : Float → Float → Float
+x ⊘ y = div binary64 x y
+
+-- ---- constants, by the bit patterns as which the code's literals are read
+
+-- the literal `0.0`
+abbrev pub 0f : Float
+0f = ofBits binary64 0
+
+-- the literal `1.0`
+abbrev pub 1f : Float
+1f = ofBits binary64 0x3ff0_0000_0000_0000
+
+-- the literal `1e-6`
+abbrev pub 1e-6 : Float
+1e-6 = ofBits binary64 0x3eb0_c6f7_a0b5_ed8d
+
+-- the literal `1e-9`
+abbrev pub 1e-9 : Float
+1e-9 = ofBits binary64 0x3e11_2e0b_e826_d695
+
+-- the literal `1e-12`
+abbrev pub 1e-12 : Float
+1e-12 = ofBits binary64 0x3d71_9799_812d_ea11
+
+-- the literal `1e12`
+abbrev pub 1e12 : Float
+1e12 = ofBits binary64 0x426d_1a94_a200_0000
+
+-- Rust's `f64::INFINITY`
+abbrev pub +∞ : Float
++∞ = inf false
+
+-- Rust's `f64::NEG_INFINITY`
+abbrev pub -∞ : Float
+-∞ = inf true
+
+-- ---- functions, for every f64
+
+-- Rust's `f64::is_finite`: neither an infinity nor a NaN
+unfoldable pub is-finite : Float → Bool
+is-finite nan = false
+is-finite (inf s) = false
+is-finite (fin s m e) = true
+
+-- Rust's `f64::max`: the larger; the other where exactly one is a NaN; of two that compare equal, which Rust leaves open, the second
+unfoldable pub max : Float → Float → Float
+max a b = cond (lt b a) a (cond (isNan b) a b)
+
+-- Rust's `f64::min`: the smaller; the other where exactly one is a NaN; of two that compare equal, which Rust leaves open, the second
+unfoldable pub min : Float → Float → Float
+min a b = cond (lt a b) a (cond (isNan b) a b)
+
+-- Rust's `f64::abs`: the sign cleared; a NaN stays a NaN
+unfoldable pub abs : Float → Float
+abs nan = nan
+abs (inf s) = inf false
+abs (fin s m e) = fin false m e

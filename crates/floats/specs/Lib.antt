@@ -1,0 +1,13 @@
+-- The vocabulary and the laws of binary64. A file uses only files above it in this list.
+-- operators, constants, `is-finite`, `max`, `min`, `abs`
+pub mod Binary64
+-- `lt`, `le`, `eq` over all values; +0 and -0
+pub mod Order
+-- a value is written in one way, and rounding leaves it as it is
+pub mod Exact
+-- changes of sign
+pub mod Mirror
+-- finite values with the sign clear: the operations as one rounding; monotone; zeros
+pub mod Plain
+-- `max`, `min`, `abs`, `is-finite`: what the code's branches return
+pub mod Functions

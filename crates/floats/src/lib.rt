@@ -1,0 +1,50 @@
+// The functions of Rust's f64 that a route planner calls, each as Rust has it for every f64.
+ghost use mathlib.Core.Path.{_≡_};
+ghost use Rattle.floats.specs.Binary64.{+∞, is-finite, max, min, abs};
+
+// +infinity, Rust's `f64::INFINITY`, which no constant can be here.
+pub fn infinity() -> f64
+    ensures { λ r. ⌜ r ≡ +∞ ⌝ }
+{
+    1.0 / 0.0
+}
+
+// The absolute value of x: -0.0 becomes 0.0, and a NaN stays a NaN.
+pub fn abs(x: f64) -> f64
+    ensures { λ r. ⌜ r ≡ abs x ⌝ }
+{
+    if x <= 0.0 { 0.0 - x } else { x }
+}
+
+// Whether x is a number: neither an infinity nor a NaN.
+pub fn is_finite(x: f64) -> bool
+    ensures { λ r. ⌜ r ≡ is-finite x ⌝ }
+{
+    abs(x) < infinity()
+}
+
+// The larger of a and b. Where exactly one is a NaN the other is returned; b where they are equal.
+pub fn max(a: f64, b: f64) -> f64
+    ensures { λ r. ⌜ r ≡ max a b ⌝ }
+{
+    if a > b {
+        a
+    } else if b != b {
+        a
+    } else {
+        b
+    }
+}
+
+// The smaller of a and b. Where exactly one is a NaN the other is returned; b where they are equal.
+pub fn min(a: f64, b: f64) -> f64
+    ensures { λ r. ⌜ r ≡ min a b ⌝ }
+{
+    if a < b {
+        a
+    } else if b != b {
+        a
+    } else {
+        b
+    }
+}
