@@ -2,7 +2,7 @@
 -- Assumes nothing.
 use Prim.Native.Nat.{ℕ, _<_, _≤_}
 use mathlib.Core.Path.{_≡_, refl, sym, ap, _∙_}
-use mathlib.Core.Bool.{Bool, true, false, cond}
+use mathlib.Core.Bool.{Bool, true, false, cond, not, _&&_, _||_}
 use lib.Dec.{eqb, ltb, leb}
 use borrow.Author.Tests.{eq-eqb, ne-eqb, lt-ltb, le-ltb, le-leb, lt-leb}
 
@@ -31,8 +31,21 @@ module _ {A : Type 0} where
   pub pick-gt : (m n : ℕ) (x y z : A) → n < m → z ≡ y → z ≡ cond (leb m n) x y
   pick-gt m n x y z e p = pick-false (leb m n) x y z (lt-leb m n e) p
 
+-- a conjunction and a disjunction, whose second test is made only where the first leaves it open
+pub pick-and : (a b z : Bool) → a ≡ true → z ≡ b → z ≡ (a && b)
+pick-and a b z e p = p ∙ sym (ap (λ (t : Bool). t && b) e)
+
+pub pick-and-not : (a b : Bool) → a ≡ false → false ≡ (a && b)
+pick-and-not a b e = sym (ap (λ (t : Bool). t && b) e)
+
+pub pick-or : (a b : Bool) → a ≡ true → true ≡ (a || b)
+pick-or a b e = sym (ap (λ (t : Bool). t || b) e)
+
+pub pick-or-not : (a b z : Bool) → a ≡ false → z ≡ b → z ≡ (a || b)
+pick-or-not a b z e p = p ∙ sym (ap (λ (t : Bool). t || b) e)
+
 -- A test that is a call's result: it is b by the callee's contract, and t by the branch.
 pub via : (b v t : Bool) → v ≡ b → v ≡ t → b ≡ t
 via b v t p q = sym p ∙ q
 
-pub ruleset picks = (pick-true, pick-false, pick-eq, pick-ne, pick-lt, pick-ge, pick-le, pick-gt, via)
+pub ruleset picks = (pick-true, pick-false, pick-eq, pick-ne, pick-lt, pick-ge, pick-le, pick-gt, pick-and, pick-and-not, pick-or, pick-or-not, via)

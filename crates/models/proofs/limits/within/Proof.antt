@@ -1,0 +1,20 @@
+-- `limits::within` meets its contract.
+use borrow.Author.Needs.{needs}
+use Rattle.models.proofs.LimitLaws.{within-at}
+use Rattle.models.proofs.limits.within.Tie as tie
+use Rattle.models.proofs.limits.within.Statement.{statement}
+
+enum-told : tie.Need-enum-told
+enum-told c = search needs
+
+enum-known-limit : tie.Need-enum-known-limit
+enum-known-limit c = search needs
+
+returns : tie.Need-returns
+returns c = search needs
+
+returns-2 : tie.Need-returns-2
+returns-2 c = search within-at
+
+pub within-spec : {M : Type 1} → statement M
+within-spec = tie.close (tie.spec enum-told enum-known-limit returns returns-2)
