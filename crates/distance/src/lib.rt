@@ -1,0 +1,48 @@
+// The distance matrix: n by n cells, row by row, and travel times likewise or none (distance/matrix.rs).
+ghost use mathlib.Core.Path.{_≡_};
+ghost use Prim.Native.Nat.{_<_, _≤_, _*_};
+ghost use lib.ListN.{length};
+ghost use Rattle.models.specs.Problem.{matrix, Square};
+ghost use Rattle.distance.specs.Matrix.{cell, travel-time, largest};
+use floats::max;
+
+// The cell from one place to another. Every place on a checked problem lies in the matrix, so no cell is ever out of it.
+pub fn get(cells: &[f64], n: usize, from: usize, to: usize) -> f64
+    requires { ⌜ (n ≤ 256) × (from < n) × (to < n) × (length (now cells) ≡ n * n) ⌝ }
+    ensures { λ r. ⌜ r ≡ cell (now (cells .entry)) n from to ⌝ }
+{
+    cells[from * n + to]
+}
+
+// The travel time from one place to another: the distance, unless there are times.
+pub fn travel_time(distances: &[f64], times: &[f64], n: usize, from: usize, to: usize) -> f64
+    requires { ⌜ Square (matrix n (now distances) (now times)) ⌝ }
+    requires { ⌜ (from < n) × (to < n) ⌝ }
+    ensures { λ r. ⌜ r ≡ travel-time (matrix n (now (distances .entry)) (now (times .entry))) from to ⌝ }
+{
+    if times.len() == 0 {
+        get(distances, n, from, to)
+    } else {
+        get(times, n, from, to)
+    }
+}
+
+// The largest of some numbers, 0 where none is above it.
+pub fn largest(xs: &[f64]) -> f64
+    ensures { λ r. ⌜ r ≡ largest (now (xs .entry)) ⌝ }
+{
+    let mut most = 0.0;
+    let mut i = 0;
+    while i < xs.len() {
+        most = max(most, xs[i]);
+        i += 1;
+    }
+    most
+}
+
+// The largest distance: the size that distances are in, by which a gain is told from rounding.
+pub fn scale(distances: &[f64]) -> f64
+    ensures { λ r. ⌜ r ≡ largest (now (distances .entry)) ⌝ }
+{
+    largest(distances)
+}
