@@ -44,8 +44,17 @@ pick-or a b e = sym (ap (λ (t : Bool). t || b) e)
 pub pick-or-not : (a b z : Bool) → a ≡ false → z ≡ b → z ≡ (a || b)
 pick-or-not a b z e p = p ∙ sym (ap (λ (t : Bool). t || b) e)
 
+pub pick-and-eq : (m n : ℕ) (b z : Bool) → m ≡ n → z ≡ b → z ≡ (eqb m n && b)
+pick-and-eq m n b z e p = pick-and (eqb m n) b z (eq-eqb m n e) p
+
+pub pick-and-ne : (m n : ℕ) (b : Bool) → (m ≡ n → ⊥) → false ≡ (eqb m n && b)
+pick-and-ne m n b e = pick-and-not (eqb m n) b (ne-eqb m n e)
+
+pub pick-not : (v b : Bool) → v ≡ b → not v ≡ not b
+pick-not v b e = ap not e
+
 -- A test that is a call's result: it is b by the callee's contract, and t by the branch.
 pub via : (b v t : Bool) → v ≡ b → v ≡ t → b ≡ t
 via b v t p q = sym p ∙ q
 
-pub ruleset picks = (pick-true, pick-false, pick-eq, pick-ne, pick-lt, pick-ge, pick-le, pick-gt, pick-and, pick-and-not, pick-or, pick-or-not, via)
+pub ruleset picks = (pick-true, pick-false, pick-eq, pick-ne, pick-lt, pick-ge, pick-le, pick-gt, pick-and, pick-and-not, pick-and-eq, pick-and-ne, pick-or, pick-or-not, pick-not, via)

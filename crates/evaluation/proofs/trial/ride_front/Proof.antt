@@ -1,0 +1,22 @@
+-- `trial::ride_front` meets its contract.
+use borrow.Author.Needs.{needs}
+use Rattle.evaluation.proofs.ScheduleLaws.{out-there, front-few, front-is}
+use Rattle.evaluation.proofs.StopLaws.{part-laws}
+use Rattle.evaluation.proofs.trial.ride_front.Statement.{statement}
+use Rattle.evaluation.proofs.trial.ride_front.Tie as tie
+
+new-requires : tie.Need-new-requires
+new-requires c κs = search needs
+
+slice-aggregate-ride-all : tie.Need-slice-aggregate-ride-all
+slice-aggregate-ride-all c = search part-laws
+
+ride-all-requires : tie.Need-ride-all-requires
+ride-all-requires c κs = search (part-laws, out-there, front-few)
+
+returns : tie.Need-returns
+returns c = search front-is
+
+pub ride-front-spec : {M : Type 1} → statement M
+ride-front-spec =
+    tie.close (tie.spec new-requires slice-aggregate-ride-all ride-all-requires returns)
