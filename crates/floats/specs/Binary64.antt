@@ -30,6 +30,10 @@ x ⊘ y = div binary64 x y
 abbrev pub 0f : Float
 0f = ofBits binary64 0
 
+-- -0.0, where Rust's `sum` of f64s starts
+abbrev pub -0f : Float
+-0f = ofBits binary64 0x8000_0000_0000_0000
+
 -- the literal `1.0`
 abbrev pub 1f : Float
 1f = ofBits binary64 0x3ff0_0000_0000_0000

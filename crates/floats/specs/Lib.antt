@@ -6,7 +6,7 @@ pub mod Order
 -- a value is written in one way, and rounding leaves it as it is
 pub mod Exact
 -- changes of sign
-pub mod Mirror
+pub mod Sign
 -- finite values with the sign clear: the operations as one rounding; monotone; zeros
 pub mod Plain
 -- `max`, `min`, `abs`, `is-finite`: what the code's branches return
