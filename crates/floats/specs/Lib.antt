@@ -11,3 +11,7 @@ pub mod Sign
 pub mod Plain
 -- `max`, `min`, `abs`, `is-finite`: what the code's branches return
 pub mod Functions
+-- sums and differences of either sign keep the order
+pub mod Monotone
+-- what is below x - y is below x: the test for an accepted attempt
+pub mod Gain

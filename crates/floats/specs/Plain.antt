@@ -306,6 +306,10 @@ add-minus-zero-left (fin s m e) h =
     (mul-pos (le-refl 1) (down-pos e)) (down-pos e) (factor-one (m * up e) (down e))
     ∙ round-own binary64 s m e h
 
+pub sub-zero-right : (x : Float) → T (fits binary64 x) → x ⊖ 0f ≡ x
+unfolding sub ofBits
+sub-zero-right x h = add-minus-zero-right x h
+
 -- ---- products and quotients keep the order
 
 pub mul-mono : (x x' y y' : Float) → T (plain x) → T (plain x') → T (plain y) → T (plain y')
