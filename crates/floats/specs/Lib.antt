@@ -15,3 +15,9 @@ pub mod Functions
 pub mod Monotone
 -- what is below x - y is below x: the test for an accepted attempt
 pub mod Gain
+-- bounds n * 2 ^ k, kept by sums, differences, products and quotients
+pub mod Upto
+-- the sign of x - y
+pub mod Difference
+-- the same for values of either sign
+pub mod Within

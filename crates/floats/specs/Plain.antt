@@ -17,7 +17,8 @@ use lib.Ieee.Order.{round-mono}
 use lib.Ieee.Positive.{num, den, den-pos}
 use Rattle.floats.specs.Binary64.{_⊕_, _⊖_, _⊗_, _⊘_, 0f, -0f}
 use Rattle.floats.specs.Order.{plus-zero, le→AtMost, AtMost→le, lt→Less, Less→lt, eq→le, eq-sym}
-use Rattle.floats.specs.Exact.{unique, round-own, round-zero}
+use Rattle.floats.specs.Exact.{unique, round-own}
+use Rattle.floats.specs.Sign.{Sign}
 
 -- a number whose sign is clear
 abbrev pub plain : Float → Bool
@@ -35,6 +36,12 @@ unfolding isNan
 plain-not-nan nan p = absurd p
 plain-not-nan (inf s) p = absurd p
 plain-not-nan (fin s m e) p = refl
+
+pub plain-sign : (x : Float) → T (plain x) → Sign false x
+plain-sign nan p = absurd p
+plain-sign (inf s) p = absurd p
+plain-sign (fin true m e) p = absurd p
+plain-sign (fin false m e) p = refl
 
 -- ---- the order is that of the fractions
 
