@@ -21,3 +21,7 @@ pub mod Upto
 pub mod Difference
 -- the same for values of either sign
 pub mod Within
+-- sums of lists
+pub mod Sums
+-- whole numbers up to 2 ^ 53
+pub mod Whole

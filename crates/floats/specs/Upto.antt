@@ -20,7 +20,7 @@ use Rattle.floats.specs.Binary64.{_⊕_, _⊖_, _⊗_, _⊘_, 0f, is-fin
 use Rattle.floats.specs.Order.{plus-zero, passed}
 use Rattle.floats.specs.Exact.{units-exact}
 use Rattle.floats.specs.Sign.{Sign, round-sign, clear-not-below}
-use Rattle.floats.specs.Plain.{plain, plain-finite, plain-not-nan, plain-sign, value-plain, value-cross, le→cross, cross→le, add-is, sub-is, mul-is, div-is}
+use Rattle.floats.specs.Plain.{plain, plain-finite, plain-not-nan, plain-sign, value-plain, value-cross, le→cross, cross→le, add-is, sub-is, mul-is, div-is, add-ge-left, add-ge-right}
 use Rattle.floats.specs.Functions.{is-finite-of, max-keeps, min-keeps, abs-plain}
 
 pub record Upto (k n : ℕ) (x : Float) : Type 0 where
@@ -141,6 +141,14 @@ upto-add {k} {a} {b} {x} {y} u v h l =
     subst (λ (z : Float). Upto k (a + b) z) (sym (add-is x y (u .clear) (v .clear)))
     (upto-round k (a + b) (num x * den y + num y * den x) (den x * den y) h l (mul-pos (den-pos x) (den-pos y))
     (sum-bound (num x) (num y) (den x) (den y) a b (2 ^ k) (u .most) (v .most)))
+
+-- A sum is at least each of its terms.
+module _ {k a j b : ℕ} {x y : Float} (u : Upto k a x) (v : Upto j b y) where
+  pub upto-add-left : le x (x ⊕ y) ≡ true
+  upto-add-left = is-true (le x (x ⊕ y)) (add-ge-left x y (u .clear) (v .clear) (u .held))
+
+  pub upto-add-right : le y (x ⊕ y) ≡ true
+  upto-add-right = is-true (le y (x ⊕ y)) (add-ge-right x y (u .clear) (v .clear) (v .held))
 
 -- ---- a difference x - y with y ≤ x
 
