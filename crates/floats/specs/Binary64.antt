@@ -1,8 +1,12 @@
 -- The vocabulary of binary64, Rust's f64: the operators, the constants, and the functions that the code stands in for.
 -- A `Float` is `nan`, an infinity `inf s`, or the number `fin s m e`, which is m * 2 ^ e, negative where s is true; zero keeps its sign.
 -- Assumes nothing.
+use Prim.Native.Nat.{_-_, _^_}
 use mathlib.Core.Bool.{Bool, true, false, cond}
-use lib.Ieee.{Float, nan, inf, fin, binary64, add, sub, mul, div, lt, isNan, ofBits}
+use lib.IntN.{ℤ, pos, negsuc}
+use lib.Dec.{ltb}
+use lib.Signed.{ltZ}
+use lib.Ieee.{Float, nan, inf, fin, binary64, add, sub, mul, div, lt, isNan, ofBits, toBits}
 
 -- ---- operators: Rust's `+`, `-`, `*`, `/` on f64, each the exact result rounded once
 
@@ -83,3 +87,17 @@ unfoldable pub abs : Float → Float
 abs nan = nan
 abs (inf s) = inf false
 abs (fin s m e) = fin false m e
+
+-- Rust's `f64::is_sign_negative`: whether the sign bit is set, as it is in -0.0; a NaN has no sign here
+unfoldable pub is-sign-negative : Float → Bool
+is-sign-negative nan = false
+is-sign-negative (inf s) = s
+is-sign-negative (fin s m e) = s
+
+-- the bit pattern as Rust's `f64::total_cmp` reads it: a number of 63 bits, counted down from -1 where the sign bit is set
+unfoldable pub total-rank : Float → ℤ
+total-rank x = cond (ltb (toBits binary64 x) (2 ^ 63)) (pos (toBits binary64 x)) (negsuc (toBits binary64 x - 2 ^ 63))
+
+-- Rust's `f64::total_cmp` says `Less`
+unfoldable pub total-less : Float → Float → Bool
+total-less x y = ltZ (total-rank x) (total-rank y)

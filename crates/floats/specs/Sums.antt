@@ -3,7 +3,7 @@
 use mathlib.Core.Path.{_≡_, refl, sym, ap, _∙_, subst}
 use mathlib.Core.List.{List, [], _∷_, _++_}
 use Prim.Native.Nat.{ℕ, zero, suc, _+_, _*_, _^_, _≤_, _<_}
-use native.Mathlib.Nat.{add-zero, suc-mul, zero-mul, zero-lt-suc, not-suc-le-zero, le-of-suc-le-suc, le-of-eq, le-add-right}
+use native.Mathlib.Nat.{add-zero, suc-mul, zero-mul, zero-lt-suc, not-suc-le-zero, le-of-suc-le-suc, le-of-eq, le-trans, le-add-right, zero-add, mul-le-mul-right}
 use native.Mathlib.Numerals.{add-one}
 use native.Mathlib.Omega.{arith}
 use mathlib.Core.Bool.{true}
@@ -17,7 +17,7 @@ use Rattle.floats.specs.Binary64.{_⊕_, 0f, -0f}
 use Rattle.floats.specs.Order.{le-self, negated}
 use Rattle.floats.specs.Plain.{plain, add-zero-left, add-minus-zero-left}
 use Rattle.floats.specs.Monotone.{add-mono-true}
-use Rattle.floats.specs.Upto.{Upto, upto-more, upto-add, upto-add-left, upto-not-nan, upto-finite}
+use Rattle.floats.specs.Upto.{Upto, upto-zero, upto-more, upto-add, upto-add-left, upto-not-nan, upto-finite}
 
 -- a + x1 + x2 + .., from the left: Rust's `xs.iter().sum::<f64>()` is the sum from -0
 unfoldable pub sum-from : Float → List Float → Float
@@ -76,6 +76,16 @@ upto-sum {k} {b} {n} {a} u (more {x} {xs} v vs) h l =
     let l' : b + n + length xs * n ≤ 2 ^ 53 = subst (λ (z : ℕ). z ≤ 2 ^ 53) e l in
     subst (λ (z : ℕ). Upto k z (sum-from (a ⊕ x) xs)) (sym e)
     (upto-sum (upto-add u v h (less-room b n (length xs * n) (2 ^ 53) l')) vs h l')
+
+scaled : (m n c : ℕ) → c ≤ m → 0 + c * n ≤ m * n
+scaled m n c h = le-trans (le-of-eq (zero-add (c * n))) (mul-le-mul-right n h)
+
+-- from zero, for up to m terms
+pub upto-sum-zero : {k n : ℕ} {xs : List Float} (m : ℕ) → AllUpto k n xs → length xs ≤ m → k ≤ 970 → m * n ≤ 2 ^ 53
+    → Upto k (m * n) (sum-from 0f xs)
+upto-sum-zero {k} {n} {xs} m us c h l =
+    let s = scaled m n (length xs) c in
+    upto-more (m * n) (upto-sum (upto-zero k 0) us h (le-trans s l)) s
 
 pub sum-fits : (a : Float) (xs : List Float) → T (fits binary64 a) → T (fits binary64 (sum-from a xs))
 unfolding sum-from
