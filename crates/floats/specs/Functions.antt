@@ -1,29 +1,27 @@
--- For whoever calls `max`, `min`, `abs` and `is_finite`: what each is on numbers, on infinities and at a NaN.
--- The first section has what the code's branches return, for the proofs of the four. Assumes nothing.
+-- For whoever calls `max`, `min`, `abs` and `is_finite`, or tests for a NaN: what each is on numbers, on infinities and
+-- at a NaN. Assumes nothing.
 use mathlib.Core.Path.{_≡_, refl, sym, ap, _∙_, subst}
-use Prim.Native.Nat.{ℕ, zero, suc, _+_, _*_, _≤_, _<_}
-use native.Mathlib.Nat.{mul-pos, zero-lt-suc}
-use native.Mathlib.Omega.{arith}
-use mathlib.Core.Bool.{Bool, true, false, not, cond, true≢false, false≢true}
-use lib.IntN.{ℤ, pos}
-use lib.Dec.{T, not-T}
-use lib.Ieee.{Float, nan, inf, fin, binary64, up, down, neg, sub, lt, le, ne, fits, isNan, ofBits}
-use lib.Ieee.Fits.{up-pos}
+use Prim.Native.Nat.{ℕ, _+_, _-_, _*_}
+use mathlib.Core.Bool.{Bool, true, false, cond, _&&_, Bool·beq, true≢false, false≢true}
+use lib.Dec.{T, ltb, not-T}
+use lib.Ieee.{Float, nan, inf, fin, binary64, up, down, round, sum, neg, add, sub, lt, le, ne, fits, isNan, ofBits}
 use lib.Ieee.Bits.{is-true, is-false}
 use lib.Ieee.Compare.{differs-from-itself, nan-differs}
 use lib.Ieee.Scale.{finite}
-use Rattle.floats.specs.Binary64.{_⊖_, 0f, +∞, -∞, is-finite, max, min, abs}
-use Rattle.floats.specs.Order.{plus-zero, passed, negated, le→AtMost, le-self, le-left, le-right, le-of-lt-true, le-of-lt-false}
-use Rattle.floats.specs.Exact.{zero-exp}
-use Rattle.floats.specs.Sign.{fits-sign, signs-le, clear-not-below}
-use Rattle.floats.specs.Plain.{plain, plain-finite, add-zero-left}
+use Rattle.floats.specs.Binary64.{_⊕_, _⊖_, 0f, +∞, -∞, is-finite, max, min, abs}
+use Rattle.floats.specs.Order.{plus-zero, passed, negated, le-self, le-left, le-right, le-of-lt-true}
+use Rattle.floats.specs.Order.{le-of-lt-false}
+use Rattle.floats.specs.Sign.{fits-sign, clear-not-below, round-not-nan}
+use Rattle.floats.specs.Plain.{plain}
 
--- ---- what the code's branches return
+-- ---- a NaN
 
 self-test : (x : Float) → ne x x ≡ isNan x
 unfolding isNan
 self-test nan = nan-differs
-self-test (inf s) = is-false (ne (inf s) (inf s)) (not-T (ne (inf s) (inf s)) (λ h. true≢false (sym (ap isNan (differs-from-itself (inf s) h)))))
+self-test (inf s) =
+    is-false (ne (inf s) (inf s))
+    (not-T (ne (inf s) (inf s)) (λ h. true≢false (sym (ap isNan (differs-from-itself (inf s) h)))))
 self-test (fin s m e) =
     let x = fin s m e in
     is-false (ne x x) (not-T (ne x x) (λ h. true≢false (sym (ap isNan (differs-from-itself x h)))))
@@ -31,49 +29,6 @@ self-test (fin s m e) =
 -- The test `x != x` tells a NaN.
 pub nan-tested : (x : Float) (t : Bool) → ne x x ≡ t → isNan x ≡ t
 nan-tested x t e = sym (self-test x) ∙ e
-
-sign-set : (m : ℕ) (e : ℤ) → le (fin true m e) 0f ≡ true
-unfolding ofBits
-sign-set m e = is-true (le (fin true m e) plus-zero) (signs-le (fin true m e) plus-zero refl refl)
-
--- A value that is not zero or less has its sign clear already.
-pub abs-above : (x : Float) → le x 0f ≡ false → x ≡ abs x
-unfolding abs le ofBits
-abs-above nan h = refl
-abs-above (inf true) h = absurd (true≢false h)
-abs-above (inf false) h = refl
-abs-above (fin true m e) h = absurd (true≢false (sym (sign-set m e) ∙ h))
-abs-above (fin false m e) h = refl
-
-positive : (m : ℕ) (e : ℤ) → le (fin false (suc m) e) 0f ≡ true → ⊥
-unfolding ofBits
-positive m e h =
-    clash (suc m * up e) (down e) (mul-pos (zero-lt-suc m) (up-pos e))
-    (le→AtMost false (suc m) e false 0 (pos 0) (passed (le (fin false (suc m) e) plus-zero) h))
-  where
-    clash : (a c : ℕ) → 0 < a → a * 1 + 0 * c ≤ 0 * c + 0 * 1 → ⊥
-    clash a c A g = omega arith
-
--- 0.0 - x is exact, and +0 for either zero.
-pub abs-below : (x : Float) → fits binary64 x ≡ true → le x 0f ≡ true → 0f ⊖ x ≡ abs x
-unfolding abs sub le ofBits
-abs-below nan f h = refl
-abs-below (inf true) f h = refl
-abs-below (inf false) f h = absurd (false≢true h)
-abs-below (fin true m e) f h =
-    add-zero-left (fin false m e) tt (passed (fits binary64 (fin false m e)) (fits-sign binary64 false true m e ∙ f))
-abs-below (fin false zero e) f h = rw (zero-exp binary64 false e (passed (fits binary64 (fin false zero e)) f))
-abs-below (fin false (suc m) e) f h = absurd (positive m e h)
-
--- A number is below +∞ in size, and nothing else is.
-pub finite-tested : (x a t : Float) → a ≡ abs x → t ≡ +∞ → lt a t ≡ is-finite x
-unfolding abs is-finite lt
-finite-tested x a t p q = rw (p, q) (go x)
-  where
-    go : (x : Float) → lt (abs x) +∞ ≡ is-finite x
-    go nan = refl
-    go (inf s) = refl
-    go (fin s m e) = refl
 
 -- ---- `is-finite`: it is `finite` of `lib.Ieee.Scale`, as a test of the code
 
@@ -94,6 +49,35 @@ unfolding is-finite isNan
 finite-not-nan nan h = absurd (false≢true h)
 finite-not-nan (inf s) h = refl
 finite-not-nan (fin s m e) h = refl
+
+-- ---- only a NaN makes a sum or a difference with a number a NaN
+
+sum-not-nan : (s : Bool) (a : ℕ) (t : Bool) (b c : ℕ) → isNan (sum binary64 s a t b c) ≡ false
+unfolding sum
+sum-not-nan s a t b c = go (Bool·beq s t) (ltb a b)
+  where
+    go : (u v : Bool) → isNan (cond u (round binary64 s (a + b) c)
+        (cond v (round binary64 t (b - a) c) (round binary64 (s && ltb b a) (a - b) c))) ≡ false
+    go true v = round-not-nan binary64 s (a + b) c
+    go false true = round-not-nan binary64 t (b - a) c
+    go false false = round-not-nan binary64 (s && ltb b a) (a - b) c
+
+pub add-not-nan : (x y : Float) → is-finite x ≡ true → isNan y ≡ false → isNan (x ⊕ y) ≡ false
+unfolding add is-finite isNan
+add-not-nan nan y p q = absurd (false≢true p)
+add-not-nan (inf s) y p q = absurd (false≢true p)
+add-not-nan (fin s m e) nan p q = absurd (true≢false q)
+add-not-nan (fin s m e) (inf t) p q = refl
+add-not-nan (fin s m e) (fin t n d) p q = sum-not-nan s (m * up e * down d) t (n * up d * down e) (down e * down d)
+
+pub sub-not-nan : (x y : Float) → is-finite x ≡ true → isNan y ≡ false → isNan (x ⊖ y) ≡ false
+unfolding sub
+sub-not-nan x y p q = add-not-nan x (neg y) p (neg-number y q)
+  where
+    neg-number : (z : Float) → isNan z ≡ false → isNan (neg z) ≡ false
+    neg-number nan n = n
+    neg-number (inf s) n = unfold neg isNan in refl
+    neg-number (fin s m e) n = unfold neg isNan in refl
 
 -- ---- the infinities are the ends of the order
 

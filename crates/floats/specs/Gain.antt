@@ -1,6 +1,7 @@
--- For a test that asks for a gain: what is below x - y, for a y that is not below zero, is below x.
--- So cost < before - c * |before| implies cost < before. Of `before` it asks only that it is an f64: a NaN, an infinity, -0 and values below zero
--- are all covered, since the test fails wherever the difference is a NaN, and elsewhere x - y ≤ x - 0 = x. Assumes nothing.
+-- For a test that asks for a gain: what is below x - y, for a y that is not below zero, is below x. So
+-- cost < before - c * |before| implies cost < before. Of `before` it asks only that it is an f64: a NaN, an infinity,
+-- -0 and values below zero are all covered, since the test fails wherever the difference is a NaN, and elsewhere
+-- x - y ≤ x - 0 = x. Assumes nothing.
 use mathlib.Core.Path.{_≡_, refl, sym, ap, _∙_, subst}
 use Prim.Native.Nat.{ℕ, _+_, _*_, _≤_, _<_}
 use native.Mathlib.Nat.{zero-mul, mul-zero, mul-pos, eq-of-mul-eq-mul-right}
@@ -21,8 +22,8 @@ use Rattle.floats.specs.Monotone.{sub-mono}
 
 -- ---- x - y is at most x
 
-numbers-sub : (s : Bool) (m : ℕ) (e : ℤ) (t : Bool) (n : ℕ) (d : ℤ) → T (fits binary64 (fin s m e)) → T (not (lt (fin t n d) plus-zero))
-    → T (le (fin s m e ⊖ fin t n d) (fin s m e))
+numbers-sub : (s : Bool) (m : ℕ) (e : ℤ) (t : Bool) (n : ℕ) (d : ℤ) → T (fits binary64 (fin s m e))
+    → T (not (lt (fin t n d) plus-zero)) → T (le (fin s m e ⊖ fin t n d) (fin s m e))
 unfolding ofBits isNan
 numbers-sub s m e t n d p h =
     let x = fin s m e in
@@ -77,7 +78,8 @@ nan-at-zero n x z = subst (λ (k : ℕ). T (not (lt (cond (eqb k 0) nan x) plus-
 
 rounded-zero : (s : Bool) (a c : ℕ) → 0 < c → a ≡ 0 → T (not (lt (round binary64 s a c) plus-zero))
 rounded-zero s a c C z =
-    subst (λ (x : Float). T (not (lt x plus-zero))) (sym (ap (λ (k : ℕ). round binary64 s k c) z ∙ round-zero binary64 s c C)) (sides s)
+    subst (λ (x : Float). T (not (lt x plus-zero)))
+    (sym (ap (λ (k : ℕ). round binary64 s k c) z ∙ round-zero binary64 s c C)) (sides s)
   where
     sides : (s : Bool) → T (not (lt (fin s 0 (pos 0)) plus-zero))
     sides true = unfold lt in tt
@@ -121,6 +123,6 @@ gain c cost before C p h =
     lt-of-lt-sub cost before (c ⊗ abs before) p (mul-not-below c (abs before) C (abs-not-below before)) h
 
 -- `cost < before - 1e-12 * before.abs()`
-pub accepted : (cost before : Float) → T (fits binary64 before)
-    → lt cost (before ⊖ 1e-12 ⊗ abs before) ≡ true → lt cost before ≡ true
+pub accepted : (cost before : Float) → T (fits binary64 before) → lt cost (before ⊖ 1e-12 ⊗ abs before) ≡ true
+    → lt cost before ≡ true
 accepted cost before p h = gain 1e-12 cost before (unfold ofBits lt in refl) p h

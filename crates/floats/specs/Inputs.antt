@@ -1,17 +1,18 @@
--- For the floats of a problem, once the tests at the door have passed: an amount has its sign bit clear and is at most 1e12.
--- Each sum, product and quotient of amounts is then a number, with its bound as an `Upto`. Assumes nothing.
-use mathlib.Core.Path.{_≡_, refl, sym, ap, subst}
-use Prim.Native.Nat.{ℕ, _+_, _*_, _^_, _≤_}
-use mathlib.Core.Bool.{Bool, true, false, not, true≢false, false≢true}
+-- For the floats of a problem, once the tests at the door have passed: an amount has its sign bit clear and is at most
+-- 1e12. Sums, products and quotients of amounts are then numbers, with their bounds as `Upto`. Assumes nothing.
+use mathlib.Core.Path.{_≡_, refl, sym, subst}
+use Prim.Native.Nat.{_^_, _≤_}
+use mathlib.Core.Bool.{true, false, true≢false, false≢true}
 use mathlib.Core.List.{List}
 use lib.Dec.{T, lit≤, lit<}
 use lib.ListN.{length}
-use lib.Ieee.{Float, nan, inf, fin, binary64, lt, le, fits, isNan, ofBits}
+use lib.Ieee.{Float, nan, inf, fin, binary64, lt, le, fits, ofBits}
 use Rattle.floats.specs.Binary64.{_⊕_, _⊘_, 0f, 1e-6, 1e12, is-finite, is-sign-negative}
 use Rattle.floats.specs.Order.{passed, le-of-lt-false, lt-false-of-le}
 use Rattle.floats.specs.Plain.{plain}
 use Rattle.floats.specs.Functions.{finite-not-nan}
-use Rattle.floats.specs.Upto.{Upto, Atleast, upto-le, upto-as, upto-test, upto-finite, upto-not-nan, upto-add, upto-div, atleast-le}
+use Rattle.floats.specs.Upto.{Upto, Atleast, upto-le, upto-as, upto-test, upto-finite, upto-not-nan, upto-add}
+use Rattle.floats.specs.Upto.{upto-div, atleast-le}
 use Rattle.floats.specs.Sums.{AllUpto, sum-from, upto-sum-zero}
 use Rattle.floats.specs.Literals.{1e12-is}
 
@@ -37,7 +38,8 @@ pub amount-of : (x : Float) → fits binary64 x ≡ true → is-sign-negative x 
 amount-of x p s h = upto-le x (clear-below x s h) (passed (fits binary64 x) p) h 1e12-amount
 
 -- the same by the three refusals: not finite, sign bit set, above 1e12
-pub amount-of-tests : (x : Float) → fits binary64 x ≡ true → is-finite x ≡ true → is-sign-negative x ≡ false → lt 1e12 x ≡ false → Amount x
+pub amount-of-tests : (x : Float) → fits binary64 x ≡ true → is-finite x ≡ true → is-sign-negative x ≡ false
+    → lt 1e12 x ≡ false → Amount x
 amount-of-tests x p f s h =
     amount-of x p s (le-of-lt-false 1e12 x (upto-not-nan 1e12-amount) (finite-not-nan x f) h)
 
@@ -68,7 +70,8 @@ unfolding ofBits
 1e-6-atleast = record { clear = tt; least = lit≤ tt }
 
 -- It is at most 1.1e18.
-pub amount-over-rate : {fixed : Float} (rate : Float) → Amount fixed → T (plain rate) → le 1e-6 rate ≡ true → Upto 10 1074218750000000 (fixed ⊘ rate)
+pub amount-over-rate : {fixed : Float} (rate : Float) → Amount fixed → T (plain rate) → le 1e-6 rate ≡ true
+    → Upto 10 1074218750000000 (fixed ⊘ rate)
 amount-over-rate rate u p h =
     upto-div 10 1074218750000000 u (atleast-le rate 1e-6-atleast p h) (lit< tt) (lit≤ tt) (lit≤ tt) (lit≤ tt)
 
@@ -79,9 +82,11 @@ pub amounts-sum : {legs : List Float} → AllUpto 0 (10 ^ 12) legs → length le
 amounts-sum us h = upto-as 50 1 (upto-sum-zero 1000 us h (lit≤ tt) (lit≤ tt)) (lit≤ tt)
 
 -- such a sum and an amount over a rate, as a route's distance and fixed cost
-pub priced-sum : {distance fixed : Float} → Upto 50 1 distance → Upto 10 1074218750000000 fixed → Upto 50 978 (distance ⊕ fixed)
+pub priced-sum : {distance fixed : Float} → Upto 50 1 distance → Upto 10 1074218750000000 fixed
+    → Upto 50 978 (distance ⊕ fixed)
 priced-sum u v = upto-add u (upto-as 50 977 v (lit≤ tt)) (lit≤ tt) (lit≤ tt)
 
 -- up to 600 of these, as a plan's cost
-pub cost-sum : {routes : List Float} → AllUpto 50 978 routes → length routes ≤ 600 → Upto 50 586800 (sum-from 0f routes)
+pub cost-sum : {routes : List Float} → AllUpto 50 978 routes → length routes ≤ 600
+    → Upto 50 586800 (sum-from 0f routes)
 cost-sum us h = upto-sum-zero 600 us h (lit≤ tt) (lit≤ tt)

@@ -1,11 +1,13 @@
--- For the code's literals: each constant is its decimal number rounded once, and under `unfolding ofBits` it computes to its `fin s m e`.
--- The last section has closed terms that compute, as checks of the vocabulary: the `unfolding` line names each operation that a term calls. Assumes nothing.
+-- For the code's literals: each constant is its decimal number rounded once, and under `unfolding ofBits` it computes
+-- to its `fin s m e`. The last section has closed terms that compute, as checks of the vocabulary: the `unfolding` line
+-- names each operation that a term calls. Assumes nothing.
 use mathlib.Core.Path.{_≡_, refl}
 use Prim.Native.Nat.{_^_}
 use mathlib.Core.Bool.{true, false}
 use lib.IntN.{pos}
-use lib.Ieee.{Float, nan, fin, binary64, round, add, sub, mul, div, lt, isNan, ofInt, ofBits, toBits}
-use Rattle.floats.specs.Binary64.{_⊕_, _⊖_, _⊗_, _⊘_, 0f, 1f, 1e-6, 1e-9, 1e-12, 1e12, +∞, is-finite, max, min, abs, -0f, -∞}
+use lib.Ieee.{nan, fin, binary64, round, neg, add, sub, mul, div, lt, isNan, ofInt, ofBits, toBits}
+use Rattle.floats.specs.Binary64.{_⊕_, _⊖_, _⊗_, _⊘_, 0f, 1f, 1e-6, 1e-9, 1e-12, 1e12, +∞, is-finite, max, min}
+use Rattle.floats.specs.Binary64.{abs, -0f, -∞}
 use Rattle.floats.specs.Order.{plus-zero, minus-zero}
 use Rattle.floats.specs.Whole.{nat}
 
@@ -14,7 +16,7 @@ unfolding ofBits
 0f-is = refl
 
 pub -0f-is : -0f ≡ minus-zero
-unfolding ofBits
+unfolding neg ofBits
 -0f-is = refl
 
 pub 1f-is : 1f ≡ fin false 1 (pos 0)
@@ -45,7 +47,9 @@ unfolding ofInt add sub mul
 priced = refl
 
 -- 0.3 < 0.1 + 0.2
-tenths : lt (ofBits binary64 0x3fd3_3333_3333_3333) (ofBits binary64 0x3fb9_9999_9999_999a ⊕ ofBits binary64 0x3fc9_9999_9999_999a) ≡ true
+tenths :
+    lt (ofBits binary64 0x3fd3_3333_3333_3333)
+    (ofBits binary64 0x3fb9_9999_9999_999a ⊕ ofBits binary64 0x3fc9_9999_9999_999a) ≡ true
 unfolding ofBits add lt
 tenths = refl
 
@@ -60,11 +64,11 @@ unfolding max lt isNan ofBits
 max-nan = refl
 
 max-zeros : max 0f -0f ≡ -0f
-unfolding max lt isNan ofBits
+unfolding max neg lt isNan ofBits
 max-zeros = refl
 
 min-zeros : min -0f 0f ≡ 0f
-unfolding min lt isNan ofBits
+unfolding min neg lt isNan ofBits
 min-zeros = refl
 
 min-ends : min -∞ (max +∞ 1f) ≡ -∞
@@ -72,7 +76,7 @@ unfolding min max lt isNan ofBits
 min-ends = refl
 
 abs-zero : abs -0f ≡ 0f
-unfolding abs ofBits
+unfolding abs neg ofBits
 abs-zero = refl
 
 not-finite : is-finite (1f ⊘ 0f) ≡ false

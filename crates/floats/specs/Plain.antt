@@ -1,15 +1,18 @@
--- For sums, differences, products and quotients of plain values: the numbers with the sign clear, so zero and above, and not -0.
--- On these the order is that of the fractions num / den, and each operation is one rounding of a fraction: `add-is`, `sub-is`, `mul-is`, `div-is`.
--- So a sum is at least each of its terms, products and quotients keep the order, and a zero adds nothing. Assumes nothing.
+-- For sums, differences, products and quotients of plain values: the numbers with the sign clear, zero and above, not
+-- -0. On these the order is that of the fractions num / den, and each operation is one rounding of a fraction
+-- (`add-is`, `sub-is`, `mul-is`, `div-is`). So a sum is at least each of its terms, products and quotients keep the
+-- order, and a zero adds nothing. Assumes nothing.
 use mathlib.Core.Path.{_≡_, refl, sym, ap, _∙_, subst}
 use Prim.Native.Nat.{ℕ, _+_, _-_, _*_, _≤_, _<_}
-use native.Mathlib.Nat.{add-zero, add-comm, zero-add, zero-mul, one-mul, mul-one, mul-assoc, mul-comm, mul-left-comm, mul-mul-mul-comm}
-use native.Mathlib.Nat.{mul-le-mul, mul-pos, mul-le-mul-right, le-add-right, le-of-eq, le-trans, le-refl, le-antisymm, not-le-of-lt}
+use native.Mathlib.Nat.{add-zero, add-comm, zero-add, zero-mul, one-mul, mul-one, mul-assoc, mul-comm, mul-left-comm}
+use native.Mathlib.Nat.{mul-mul-mul-comm, mul-le-mul, mul-pos, mul-le-mul-right, le-add-right, le-of-eq, le-trans}
+use native.Mathlib.Nat.{le-refl, le-antisymm, not-le-of-lt}
 use native.Mathlib.Omega.{arith}
 use mathlib.Core.Bool.{Bool, true, false, not, cond}
 use lib.IntN.{ℤ}
 use lib.Dec.{T, ltb, eqb, ltb→lt, nltb→le, eqb→eq}
-use lib.Ieee.{Float, nan, inf, fin, binary64, up, down, round, sum, add, sub, mul, div, lt, le, eq, fits, isNan, ofBits}
+use lib.Ieee.{Float, nan, inf, fin, binary64, up, down, round, sum, add, sub, mul, div, neg, lt, le, eq, fits, isNan}
+use lib.Ieee.{ofBits}
 use lib.Ieee.Fits.{down-pos}
 use lib.Ieee.Exact.{HasValue}
 use lib.Ieee.Scale.{finite, round-same}
@@ -115,14 +118,16 @@ value-cross nan s a c v = absurd v
 value-cross (inf t) s a c v = absurd v
 value-cross (fin t m e) s a c v = v .1
 
-cross→value : (x y : Float) → T (plain x) → T (plain y) → num x * den y ≡ num y * den x → HasValue x false (num y) (den y)
+cross→value : (x y : Float) → T (plain x) → T (plain y) → num x * den y ≡ num y * den x
+    → HasValue x false (num y) (den y)
 cross→value nan y p q h = absurd p
 cross→value (inf s) y p q h = absurd p
 cross→value (fin true m e) y p q h = absurd p
 cross→value (fin false m e) y p q h = (refl, h)
 
 -- Two plain values that compare equal are one value.
-pub same-of-eq : (x y : Float) → T (plain x) → T (plain y) → T (fits binary64 x) → T (fits binary64 y) → T (eq x y) → x ≡ y
+pub same-of-eq : (x y : Float) → T (plain x) → T (plain y) → T (fits binary64 x) → T (fits binary64 y) → T (eq x y)
+    → x ≡ y
 same-of-eq x y p q h k e =
     unique binary64 x y false (num y) (den y) (den-pos y) h k
     (cross→value x y p q (le-antisymm (le→cross x y p q (eq→le x y e)) (le→cross y x q p (eq→le y x (eq-sym x y e)))))
@@ -130,7 +135,8 @@ same-of-eq x y p q h k e =
 
 -- ---- each operation as one rounding
 
-pub add-is : (x y : Float) → T (plain x) → T (plain y) → x ⊕ y ≡ round binary64 false (num x * den y + num y * den x) (den x * den y)
+pub add-is : (x y : Float) → T (plain x) → T (plain y)
+    → x ⊕ y ≡ round binary64 false (num x * den y + num y * den x) (den x * den y)
 unfolding add
 add-is nan y p q = absurd p
 add-is (inf s) y p q = absurd p
@@ -159,7 +165,8 @@ differ : (a b c : ℕ) → b ≤ a → sum binary64 false a true b c ≡ round b
 unfolding sum
 differ a b c h = go (ltb a b) (ltb→lt a b)
   where
-    go : (t : Bool) → (T t → a < b) → cond t (round binary64 true (b - a) c) (round binary64 false (a - b) c) ≡ round binary64 false (a - b) c
+    go : (t : Bool) → (T t → a < b)
+        → cond t (round binary64 true (b - a) c) (round binary64 false (a - b) c) ≡ round binary64 false (a - b) c
     go true k = absurd (not-le-of-lt (k tt) h)
     go false k = refl
 
@@ -167,7 +174,8 @@ differ-under : (a b c : ℕ) → a < b → sum binary64 false a true b c ≡ rou
 unfolding sum
 differ-under a b c h = go (ltb a b) (nltb→le a b)
   where
-    go : (t : Bool) → (T (not t) → b ≤ a) → cond t (round binary64 true (b - a) c) (round binary64 false (a - b) c) ≡ round binary64 true (b - a) c
+    go : (t : Bool) → (T (not t) → b ≤ a)
+        → cond t (round binary64 true (b - a) c) (round binary64 false (a - b) c) ≡ round binary64 true (b - a) c
     go true k = refl
     go false k = absurd (not-le-of-lt h (k tt))
 
@@ -195,7 +203,8 @@ sub-is-under (fin false m e) (inf t) p q h = absurd q
 sub-is-under (fin false m e) (fin true n d) p q h = absurd q
 sub-is-under (fin false m e) (fin false n d) p q h =
     opened m e n d
-    ∙ differ-under (m * up e * down d) (n * up d * down e) (down e * down d) (lt→cross (fin false m e) (fin false n d) p q h)
+    ∙ differ-under (m * up e * down d) (n * up d * down e) (down e * down d)
+    (lt→cross (fin false m e) (fin false n d) p q h)
 
 no-zero : (n u : ℕ) → 0 < n * u → n ≡ 0 → ⊥
 no-zero n u h z = clash (n * u) h (ap (λ (k : ℕ). k * u) z ∙ zero-mul u)
@@ -204,7 +213,8 @@ no-zero n u h z = clash (n * u) h (ap (λ (k : ℕ). k * u) z ∙ zero-mul u)
     clash a g e = omega arith
 
 -- where y is above zero
-pub div-is : (x y : Float) → T (plain x) → T (plain y) → 0 < num y → x ⊘ y ≡ round binary64 false (num x * den y) (num y * den x)
+pub div-is : (x y : Float) → T (plain x) → T (plain y) → 0 < num y
+    → x ⊘ y ≡ round binary64 false (num x * den y) (num y * den x)
 unfolding div
 div-is nan y p q h = absurd p
 div-is (inf s) y p q h = absurd p
@@ -212,7 +222,8 @@ div-is (fin true m e) y p q h = absurd p
 div-is (fin false m e) nan p q h = absurd q
 div-is (fin false m e) (inf t) p q h = absurd q
 div-is (fin false m e) (fin true n d) p q h = absurd q
-div-is (fin false m e) (fin false n d) p q h = go (eqb n 0) (eqb→eq n 0) (round binary64 false (m * up e * down d) (n * up d * down e))
+div-is (fin false m e) (fin false n d) p q h =
+    go (eqb n 0) (eqb→eq n 0) (round binary64 false (m * up e * down d) (n * up d * down e))
   where
     go : (b : Bool) → (T b → n ≡ 0) → (r : Float) → cond b (cond (eqb m 0) nan (inf false)) r ≡ r
     go true z r = absurd (no-zero n (up d) h (z tt))
@@ -228,7 +239,8 @@ add-swap x y p q =
     ∙ sym (add-is y x q p)
 
 first-term : (a p b q : ℕ) → a * (p * q) ≤ (a * q + b * p) * p
-first-term a p b q = le-trans (le-of-eq (simp (mul-assoc, mul-comm))) (mul-le-mul-right p (le-add-right (a * q) (b * p)))
+first-term a p b q =
+    le-trans (le-of-eq (simp (mul-assoc, mul-comm))) (mul-le-mul-right p (le-add-right (a * q) (b * p)))
 
 pub add-ge-left : (x y : Float) → T (plain x) → T (plain y) → T (fits binary64 x) → T (le x (x ⊕ y))
 add-ge-left x y p q h =
@@ -272,7 +284,8 @@ unfolding sum
 onto-nothing true a b c z = ap (λ (w : ℕ). round binary64 true w c) (ap (λ (w : ℕ). a + w) z ∙ add-zero a)
 onto-nothing false a b c z = go (ltb a b) (ltb→lt a b)
   where
-    go : (t : Bool) → (T t → a < b) → cond t (round binary64 true (b - a) c) (round binary64 false (a - b) c) ≡ round binary64 false a c
+    go : (t : Bool) → (T t → a < b)
+        → cond t (round binary64 true (b - a) c) (round binary64 false (a - b) c) ≡ round binary64 false a c
     go true k = absurd (not-below-nothing a b z (k tt))
     go false k = ap (λ (w : ℕ). round binary64 false w c) (less-nothing a b z)
 
@@ -294,7 +307,7 @@ factor-one : (a c : ℕ) → a * 1 * c ≡ a * (1 * c)
 factor-one a c = simp (mul-one, one-mul)
 
 pub add-minus-zero-right : (x : Float) → T (fits binary64 x) → x ⊕ -0f ≡ x
-unfolding add ofBits
+unfolding add neg ofBits
 add-minus-zero-right nan h = refl
 add-minus-zero-right (inf s) h = refl
 add-minus-zero-right (fin s m e) h =
@@ -304,7 +317,7 @@ add-minus-zero-right (fin s m e) h =
     ∙ round-own binary64 s m e h
 
 pub add-minus-zero-left : (x : Float) → T (fits binary64 x) → -0f ⊕ x ≡ x
-unfolding add ofBits
+unfolding add neg ofBits
 add-minus-zero-left nan h = refl
 add-minus-zero-left (inf s) h = refl
 add-minus-zero-left (fin s m e) h =
@@ -319,8 +332,8 @@ sub-zero-right x h = add-minus-zero-right x h
 
 -- ---- products and quotients keep the order
 
-pub mul-mono : (x x' y y' : Float) → T (plain x) → T (plain x') → T (plain y) → T (plain y')
-    → T (le x x') → T (le y y') → T (le (x ⊗ y) (x' ⊗ y'))
+pub mul-mono : (x x' y y' : Float) → T (plain x) → T (plain x') → T (plain y) → T (plain y') → T (le x x')
+    → T (le y y') → T (le (x ⊗ y) (x' ⊗ y'))
 mul-mono x x' y y' p p' q q' h k =
     rw (mul-is x y p q, mul-is x' y' p' q')
     (round-mono binary64 (num x * num y) (den x * den y) (num x' * num y') (den x' * den y')
@@ -341,4 +354,5 @@ div-mono x x' y y' p p' q q' n n' h k =
     rw (div-is x y p q n, div-is x' y' p' q' n')
     (round-mono binary64 (num x * den y) (num y * den x) (num x' * den y') (num y' * den x')
     (mul-pos n (den-pos x)) (mul-pos n' (den-pos x'))
-    (ratio (num x) (den x) (num x') (den x') (num y) (den y) (num y') (den y') (le→cross x x' p p' h) (le→cross y' y q' q k)))
+    (ratio (num x) (den x) (num x') (den x') (num y) (den y) (num y') (den y') (le→cross x x' p p' h)
+    (le→cross y' y q' q k)))

@@ -1,15 +1,17 @@
--- For proofs about signs: `neg` turns the order round, `round` goes with it in either format and keeps the sign that it is given,
--- and a value whose sign is set is at most one whose sign is clear. Assumes nothing.
+-- For proofs about signs: `neg` turns the order round, `round` goes with it in either format and keeps the sign that it
+-- is given, and a value whose sign is set is at most one whose sign is clear. Assumes nothing.
 use mathlib.Core.Path.{_≡_, refl, sym, ap, _∙_, subst}
 use Prim.Native.Nat.{ℕ, zero, suc, _+_, _-_, _*_, _/_, _%_, _^_, _≤_, _<_, compare}
 use native.Mathlib.Omega.{arith}
 use mathlib.Core.Bool.{Bool, true, false, not, cond, true≢false, false≢true}
 use lib.IntN.{ℤ}
 use lib.Dec.{T, ltb, ltb→lt, not-T}
-use lib.Ieee.{Float, nan, inf, fin, Format, prec, emax, low, up, down, size, nearest, odd, units, round, neg, lt, le, fits, isNan}
+use lib.Ieee.{Float, nan, inf, fin, Format, prec, emax, low, up, down, size, nearest, odd, units, round, neg, lt, le}
+use lib.Ieee.{fits, isNan}
 use lib.Ieee.Fits.{round-is}
 use lib.Ieee.Order.{round-mono}
-use Rattle.floats.specs.Order.{plus-zero, over, under, le→AtMost, AtMost→le, lt-of-nle, lt-not-le, lt-left, lt-right}
+use Rattle.floats.specs.Order.{plus-zero, over, under, le→AtMost, AtMost→le, lt-of-nle, lt-not-le, lt-left}
+use Rattle.floats.specs.Order.{lt-right}
 
 -- ---- `neg` turns the order round
 
@@ -74,7 +76,9 @@ units-neg : (f : Format) (q k : ℕ) → units f true q k ≡ neg (units f false
 unfolding units
 units-neg f q k = go (ltb (q * 2 ^ k) (2 ^ (low f + suc (emax f))))
   where
-    go : (b : Bool) → cond b (odd (suc (prec f)) true q k (low f)) (inf true) ≡ neg (cond b (odd (suc (prec f)) false q k (low f)) (inf false))
+    go : (b : Bool)
+        → cond b (odd (suc (prec f)) true q k (low f)) (inf true)
+        ≡ neg (cond b (odd (suc (prec f)) false q k (low f)) (inf false))
     go true = odd-neg (suc (prec f)) q k (low f)
     go false = unfold neg in refl
 
@@ -86,7 +90,8 @@ round-neg f a c =
     round-is f true a c ∙ units-neg f (nearest (n / u) (compare (n % u * 2) u)) k ∙ sym (ap neg (round-is f false a c))
 
 -- a / b ≤ c / d, so -c / d ≤ -a / b, rounded too
-pub round-mono-neg : (f : Format) (a b c d : ℕ) → 0 < b → 0 < d → a * d ≤ c * b → T (le (round f true c d) (round f true a b))
+pub round-mono-neg : (f : Format) (a b c d : ℕ) → 0 < b → 0 < d → a * d ≤ c * b
+    → T (le (round f true c d) (round f true a b))
 round-mono-neg f a b c d B D h =
     rw (round-neg f c d, round-neg f a b) (le-neg (round f false a b) (round f false c d) (round-mono f a b c d B D h))
 
@@ -116,7 +121,17 @@ round-sign f s a c =
     let n = a * 2 ^ low f in
     let k = size (n / c) - prec f in
     let u = c * 2 ^ k in
-    subst (λ (z : Float). Sign s z) (sym (round-is f s a c)) (units-keeps f s (nearest (n / u) (compare (n % u * 2) u)) k)
+    subst (λ (z : Float). Sign s z) (sym (round-is f s a c))
+    (units-keeps f s (nearest (n / u) (compare (n % u * 2) u)) k)
+
+pub sign-not-nan : (s : Bool) (x : Float) → Sign s x → isNan x ≡ false
+unfolding isNan
+sign-not-nan s nan p = absurd p
+sign-not-nan s (inf t) p = refl
+sign-not-nan s (fin t m e) p = refl
+
+pub round-not-nan : (f : Format) (s : Bool) (a c : ℕ) → isNan (round f s a c) ≡ false
+round-not-nan f s a c = sign-not-nan s (round f s a c) (round-sign f s a c)
 
 -- A format holds a number whichever its sign.
 pub fits-sign : (f : Format) (s t : Bool) (m : ℕ) (e : ℤ) → fits f (fin s m e) ≡ fits f (fin t m e)
@@ -157,4 +172,5 @@ clear-not-below (inf true) p = absurd (true≢false p)
 clear-not-below (inf false) p = tt
 clear-not-below (fin true m e) p = absurd (true≢false p)
 clear-not-below (fin false m e) p =
-    not-T (ltb (m * up e * 1) (0 * down e)) (λ h. under-zero (m * up e * 1) (down e) (ltb→lt (m * up e * 1) (0 * down e) h))
+    not-T (ltb (m * up e * 1) (0 * down e))
+    (λ h. under-zero (m * up e * 1) (down e) (ltb→lt (m * up e * 1) (0 * down e) h))

@@ -1,9 +1,11 @@
--- For sums of lists, added from the left as a loop adds them: bounds, so that no sum overflows or is a NaN; a start at -0, as Rust's `sum` has it;
--- one more term at the end; and a sum that grows with its start and with each term. Assumes nothing.
+-- For sums of lists, added from the left as a loop adds them: bounds, so that no sum overflows or is a NaN; a start at
+-- -0, as Rust's `sum` has it; one more term at the end; and a sum that grows with its start and with each term.
+-- Assumes nothing.
 use mathlib.Core.Path.{_≡_, refl, sym, ap, _∙_, subst}
 use mathlib.Core.List.{List, [], _∷_, _++_}
 use Prim.Native.Nat.{ℕ, zero, suc, _+_, _*_, _^_, _≤_, _<_}
-use native.Mathlib.Nat.{add-zero, suc-mul, zero-mul, zero-lt-suc, not-suc-le-zero, le-of-suc-le-suc, le-of-eq, le-trans, le-add-right, zero-add, mul-le-mul-right}
+use native.Mathlib.Nat.{add-zero, suc-mul, zero-mul, zero-lt-suc, not-suc-le-zero, le-of-suc-le-suc, le-of-eq, le-trans}
+use native.Mathlib.Nat.{le-add-right, zero-add, mul-le-mul-right}
 use native.Mathlib.Numerals.{add-one}
 use native.Mathlib.Omega.{arith}
 use mathlib.Core.Bool.{true}
@@ -67,10 +69,11 @@ one-more b c t = omega (arith, suc-mul c t)
 less-room : (b t r P : ℕ) → b + t + r ≤ P → b + t ≤ P
 less-room b t r P h = omega arith
 
-pub upto-sum : {k b n : ℕ} {a : Float} {xs : List Float} → Upto k b a → AllUpto k n xs → k ≤ 970 → b + length xs * n ≤ 2 ^ 53
-    → Upto k (b + length xs * n) (sum-from a xs)
+pub upto-sum : {k b n : ℕ} {a : Float} {xs : List Float} → Upto k b a → AllUpto k n xs → k ≤ 970
+    → b + length xs * n ≤ 2 ^ 53 → Upto k (b + length xs * n) (sum-from a xs)
 unfolding sum-from
-upto-sum {k} {b} {n} u none h l = upto-more (b + 0 * n) u (le-of-eq (sym (ap (λ (z : ℕ). b + z) (zero-mul n) ∙ add-zero b)))
+upto-sum {k} {b} {n} u none h l =
+    upto-more (b + 0 * n) u (le-of-eq (sym (ap (λ (z : ℕ). b + z) (zero-mul n) ∙ add-zero b)))
 upto-sum {k} {b} {n} {a} u (more {x} {xs} v vs) h l =
     let e : b + suc (length xs) * n ≡ b + n + length xs * n = one-more b (length xs) n in
     let l' : b + n + length xs * n ≤ 2 ^ 53 = subst (λ (z : ℕ). z ≤ 2 ^ 53) e l in
@@ -98,12 +101,21 @@ pub sum-from-minus-zero : (x : Float) (xs : List Float) → T (fits binary64 x) 
 unfolding sum-from
 sum-from-minus-zero x xs h = ap (λ (z : Float). sum-from z xs) (add-minus-zero-left x h)
 
-pub sum-from-zero : (x : Float) (xs : List Float) → T (plain x) → T (fits binary64 x) → sum-from 0f (x ∷ xs) ≡ sum-from x xs
+pub sum-from-zero : (x : Float) (xs : List Float) → T (plain x) → T (fits binary64 x)
+    → sum-from 0f (x ∷ xs) ≡ sum-from x xs
 unfolding sum-from
 sum-from-zero x xs p h = ap (λ (z : Float). sum-from z xs) (add-zero-left x p h)
 
-pub same-start : (x : Float) (xs : List Float) → T (plain x) → T (fits binary64 x) → sum-from -0f (x ∷ xs) ≡ sum-from 0f (x ∷ xs)
+pub same-start : (x : Float) (xs : List Float) → T (plain x) → T (fits binary64 x)
+    → sum-from -0f (x ∷ xs) ≡ sum-from 0f (x ∷ xs)
 same-start x xs p h = sum-from-minus-zero x xs h ∙ sym (sum-from-zero x xs p h)
+
+-- Rust's `sum` of one term or more has the bound of the sum from zero.
+pub upto-sum-minus-zero : {k n : ℕ} {x : Float} {xs : List Float} (m : ℕ) → AllUpto k n (x ∷ xs) → length (x ∷ xs) ≤ m
+    → k ≤ 970 → m * n ≤ 2 ^ 53 → Upto k (m * n) (sum-from -0f (x ∷ xs))
+upto-sum-minus-zero {k} {n} {x} {xs} m (more u us) c h l =
+    subst (λ (z : Float). Upto k (m * n) z) (sym (same-start x xs (u .clear) (u .held)))
+    (upto-sum-zero m (more u us) c h l)
 
 -- ---- as a loop builds it
 
@@ -119,12 +131,14 @@ sum-snoc a (y ∷ ys) x = sum-snoc (a ⊕ y) ys x
 pub sum-take : (a : Float) (xs : List Float) (i : ℕ) (d : Float) → i < length xs
     → sum-from a (take (i + 1) xs) ≡ sum-from a (take i xs) ⊕ getD xs i d
 sum-take a xs i d h =
-    ap (λ (z : ℕ). sum-from a (take z xs)) (add-one i) ∙ ap (sum-from a) (take-suc xs i d h) ∙ sum-snoc a (take i xs) (getD xs i d)
+    ap (λ (z : ℕ). sum-from a (take z xs)) (add-one i) ∙ ap (sum-from a) (take-suc xs i d h)
+    ∙ sum-snoc a (take i xs) (getD xs i d)
 
 -- ---- the order: from a start that is no larger, with terms that are no larger, a sum is no larger
 
-pub sum-mono : {k b n : ℕ} {a a' : Float} {xs ys : List Float} → Upto k b a → Upto k b a' → AllUpto k n xs → AllUpto k n ys
-    → le a a' ≡ true → AllLe xs ys → k ≤ 970 → b + length xs * n ≤ 2 ^ 53 → le (sum-from a xs) (sum-from a' ys) ≡ true
+pub sum-mono : {k b n : ℕ} {a a' : Float} {xs ys : List Float} → Upto k b a → Upto k b a' → AllUpto k n xs
+    → AllUpto k n ys → le a a' ≡ true → AllLe xs ys → k ≤ 970 → b + length xs * n ≤ 2 ^ 53
+    → le (sum-from a xs) (sum-from a' ys) ≡ true
 unfolding sum-from
 sum-mono u u' none none o none h l = o
 sum-mono {k} {b} {n} {a} {a'} u u' (more {x} {xs} v vs) (more {x = y} w ws) o (more p ps) h l =
@@ -142,13 +156,15 @@ one-more-after : (b c t : ℕ) → b + t + suc c * t ≡ b + t + t + c * t
 one-more-after b c t = omega (arith, suc-mul c t)
 
 -- With one term less it is no larger.
-pub sum-without : {k b n : ℕ} {a z : Float} {xs ys : List Float} → Upto k b a → AllUpto k n xs → Upto k n z → AllUpto k n ys
-    → k ≤ 970 → b + n + length (xs ++ ys) * n ≤ 2 ^ 53 → le (sum-from a (xs ++ ys)) (sum-from a (xs ++ (z ∷ ys))) ≡ true
+pub sum-without : {k b n : ℕ} {a z : Float} {xs ys : List Float} → Upto k b a → AllUpto k n xs → Upto k n z
+    → AllUpto k n ys → k ≤ 970 → b + n + length (xs ++ ys) * n ≤ 2 ^ 53
+    → le (sum-from a (xs ++ ys)) (sum-from a (xs ++ (z ∷ ys))) ≡ true
 unfolding sum-from
 sum-without {k} {b} {n} {a} {z} {ys = ys} u none w vs h l =
     let r = less-room b n (length ys * n) (2 ^ 53) l in
     sum-mono (upto-more (b + n) u (le-add-right b n)) (upto-add u w h r) vs vs (upto-add-left u w) (all-le-self vs) h l
 sum-without {k} {b} {n} {a} {z} {ys = ys} u (more {xs} v us) w vs h l =
-    let l' : b + n + n + length (xs ++ ys) * n ≤ 2 ^ 53 = subst (λ (m : ℕ). m ≤ 2 ^ 53) (one-more-after b (length (xs ++ ys)) n) l in
+    let l' : b + n + n + length (xs ++ ys) * n ≤ 2 ^ 53 =
+    subst (λ (m : ℕ). m ≤ 2 ^ 53) (one-more-after b (length (xs ++ ys)) n) l in
     let r = less-room b n n (2 ^ 53) (less-room (b + n) n (length (xs ++ ys) * n) (2 ^ 53) l') in
     sum-without (upto-add u v h r) us w vs h l'

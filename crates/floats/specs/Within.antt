@@ -1,5 +1,5 @@
--- For bounds on values of either sign. `Within k n x`: x is a number of f64 of at most n units of 2 ^ k in size.
--- Sums, differences, products and changes of sign keep such a bound as `Upto`'s sums and products do, so none of them overflows or is a NaN. Assumes nothing.
+-- For bounds on values of either sign. `Within k n x`: x is a number of f64, of at most n units of 2 ^ k in size.
+-- Sums, differences, products and changes of sign keep such a bound as `Upto`'s sums and products do. Assumes nothing.
 use mathlib.Core.Path.{_≡_, sym, subst}
 use Prim.Native.Nat.{ℕ, _+_, _-_, _*_, _^_, _≤_, _<_}
 use native.Mathlib.Nat.{mul-pos, mul-le-mul-right, le-trans, sub-le, le-add-left, le-add-right}
@@ -16,6 +16,7 @@ use Rattle.floats.specs.Plain.{plain, plain-finite}
 use Rattle.floats.specs.Functions.{is-finite-of, finite-not-nan, max-keeps, min-keeps, abs-fits}
 use Rattle.floats.specs.Upto.{Upto, upto-round, sum-bound, product-bound}
 
+-- a number, held by the format, at most n * 2 ^ k in size
 pub record Within (k n : ℕ) (x : Float) : Type 0 where
   pub real : T (finite x)
   pub held : T (fits binary64 x)
@@ -62,7 +63,8 @@ module _ {k n : ℕ} {x : Float} where
 -- ---- changes of sign, choices, rounding
 
 pub within-neg : {k n : ℕ} {x : Float} → Within k n x → Within k n (neg x)
-within-neg {k} {n} {x} w = record { real = real x (w .real); held = neg-fits binary64 x (w .held); most = most x (w .most) }
+within-neg {k} {n} {x} w =
+    record { real = real x (w .real); held = neg-fits binary64 x (w .held); most = most x (w .most) }
   where
     real : (y : Float) → T (finite y) → T (finite (neg y))
     real nan p = absurd p
@@ -85,10 +87,12 @@ module _ {k n : ℕ} {x y : Float} (u : Within k n x) (v : Within k n y) where
   pub within-min : Within k n (min x y)
   within-min = min-keeps x y (λ (z : Float). Within k n z) u v
 
-pub within-round : (s : Bool) (k n a c : ℕ) → k ≤ 970 → n ≤ 2 ^ 53 → 0 < c → a ≤ n * 2 ^ k * c → Within k n (round binary64 s a c)
+pub within-round : (s : Bool) (k n a c : ℕ) → k ≤ 970 → n ≤ 2 ^ 53 → 0 < c → a ≤ n * 2 ^ k * c
+    → Within k n (round binary64 s a c)
 within-round false k n a c h l C g = upto→within (upto-round k n a c h l C g)
 within-round true k n a c h l C g =
-    subst (λ (z : Float). Within k n z) (sym (round-neg binary64 a c)) (within-neg (upto→within (upto-round k n a c h l C g)))
+    subst (λ (z : Float). Within k n z) (sym (round-neg binary64 a c))
+    (within-neg (upto→within (upto-round k n a c h l C g)))
 
 -- ---- sums and differences
 
@@ -111,28 +115,34 @@ added k a b (inf s) y u v h l = absurd (u .real)
 added k a b (fin s m e) nan u v h l = absurd (v .real)
 added k a b (fin s m e) (inf t) u v h l = absurd (v .real)
 added k a b (fin s m e) (fin t n d) u v h l =
-    within-sum k (a + b) s (m * up e * down d) t (n * up d * down e) (down e * down d) h l (mul-pos (down-pos e) (down-pos d))
+    within-sum k (a + b) s (m * up e * down d) t (n * up d * down e) (down e * down d) h l
+    (mul-pos (down-pos e) (down-pos d))
     (sum-bound (m * up e) (n * up d) (down e) (down d) a b (2 ^ k) (u .most) (v .most))
 
-pub within-add : {k a b : ℕ} {x y : Float} → Within k a x → Within k b y → k ≤ 970 → a + b ≤ 2 ^ 53 → Within k (a + b) (x ⊕ y)
+pub within-add : {k a b : ℕ} {x y : Float} → Within k a x → Within k b y → k ≤ 970 → a + b ≤ 2 ^ 53
+    → Within k (a + b) (x ⊕ y)
 within-add {k} {a} {b} {x} {y} u v h l = added k a b x y u v h l
 
-pub within-sub : {k a b : ℕ} {x y : Float} → Within k a x → Within k b y → k ≤ 970 → a + b ≤ 2 ^ 53 → Within k (a + b) (x ⊖ y)
+pub within-sub : {k a b : ℕ} {x y : Float} → Within k a x → Within k b y → k ≤ 970 → a + b ≤ 2 ^ 53
+    → Within k (a + b) (x ⊖ y)
 unfolding sub
 within-sub u v h l = within-add u (within-neg v) h l
 
 -- ---- products
 
-multiplied : (j k a b : ℕ) (x y : Float) → Within j a x → Within k b y → j + k ≤ 970 → a * b ≤ 2 ^ 53 → Within (j + k) (a * b) (x ⊗ y)
+multiplied : (j k a b : ℕ) (x y : Float) → Within j a x → Within k b y → j + k ≤ 970 → a * b ≤ 2 ^ 53
+    → Within (j + k) (a * b) (x ⊗ y)
 unfolding mul
 multiplied j k a b nan y u v h l = absurd (u .real)
 multiplied j k a b (inf s) y u v h l = absurd (u .real)
 multiplied j k a b (fin s m e) nan u v h l = absurd (v .real)
 multiplied j k a b (fin s m e) (inf t) u v h l = absurd (v .real)
 multiplied j k a b (fin s m e) (fin t n d) u v h l =
-    within-round (unlike s t) (j + k) (a * b) (m * up e * (n * up d)) (down e * down d) h l (mul-pos (down-pos e) (down-pos d))
+    within-round (unlike s t) (j + k) (a * b) (m * up e * (n * up d)) (down e * down d) h l
+    (mul-pos (down-pos e) (down-pos d))
     (subst (λ (z : ℕ). m * up e * (n * up d) ≤ a * b * z * (down e * down d)) (sym (pow-add 2 j k))
     (product-bound (m * up e) (n * up d) (down e) (down d) a b (2 ^ j) (2 ^ k) (u .most) (v .most)))
 
-pub within-mul : {j k a b : ℕ} {x y : Float} → Within j a x → Within k b y → j + k ≤ 970 → a * b ≤ 2 ^ 53 → Within (j + k) (a * b) (x ⊗ y)
+pub within-mul : {j k a b : ℕ} {x y : Float} → Within j a x → Within k b y → j + k ≤ 970 → a * b ≤ 2 ^ 53
+    → Within (j + k) (a * b) (x ⊗ y)
 within-mul {j} {k} {a} {b} {x} {y} u v h l = multiplied j k a b x y u v h l

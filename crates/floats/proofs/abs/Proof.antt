@@ -1,6 +1,6 @@
 -- `floats::abs` meets its contract: up to zero the difference 0.0 - x is exact, and above zero x has its sign clear.
 -- Assumes nothing.
-use Rattle.floats.specs.Functions.{abs-below, abs-above}
+use Rattle.floats.proofs.Branches.{abs-below, abs-above}
 use Rattle.floats.proofs.abs.Statement.{statement}
 use Rattle.floats.proofs.abs.Tie as tie
 

@@ -1,7 +1,7 @@
 -- `floats::is_finite` meets its contract: below +∞ in size are the numbers, and only those.
 -- Assumes nothing.
 use borrow.Author.Needs.{needs}
-use Rattle.floats.specs.Functions.{finite-tested}
+use Rattle.floats.proofs.Branches.{finite-tested}
 use Rattle.floats.proofs.is_finite.Statement.{statement}
 use Rattle.floats.proofs.is_finite.Tie as tie
 
