@@ -151,6 +151,7 @@ module _ (x y : Float) (p : T (plain x)) (q : T (plain y)) (h : T (fits binary64
           (is-true (le plus-zero (x ⊖ y)) (lt→le plus-zero (x ⊖ y) (sub-of-lt x y p q h k g)))
           ∙ sym (lt-false-of-le y x (is-true (le y x) (lt→le y x g)))
 
+  -- It is +0 where they are equal.
   pub sub-equal : eq x y ≡ true → x ⊖ y ≡ 0f
   sub-equal g = sub-of-eq x y p q (passed (eq x y) g)
 
@@ -158,6 +159,7 @@ module _ (x y : Float) (p : T (plain x)) (q : T (plain y)) (h : T (fits binary64
   pub sub-swap : lt x y ≡ true → x ⊖ y ≡ neg (y ⊖ x)
   sub-swap g = swapped x y p q (passed (lt x y) g)
 
+  -- It is never -0.
   pub sub-not-minus-zero : x ⊖ y ≡ -0f → ⊥
   unfolding neg is-sign-negative ofBits
   sub-not-minus-zero z = go ordered

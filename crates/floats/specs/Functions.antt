@@ -32,12 +32,14 @@ nan-tested x t e = sym (self-test x) ∙ e
 
 -- ---- `is-finite`: it is `finite` of `lib.Ieee.Scale`, as a test of the code
 
+-- from the code's test
 pub finite-of : (x : Float) → is-finite x ≡ true → T (finite x)
 unfolding is-finite
 finite-of nan h = absurd (false≢true h)
 finite-of (inf s) h = absurd (false≢true h)
 finite-of (fin s m e) h = tt
 
+-- .. and back
 pub is-finite-of : (x : Float) → T (finite x) → is-finite x ≡ true
 unfolding is-finite
 is-finite-of nan h = absurd h
@@ -103,6 +105,7 @@ one-of P a b false true p q = p
 one-of P a b false false p q = q
 
 module _ (a b : Float) where
+  -- the first where it is the larger, the second where it is not and is no NaN
   pub max-first : lt b a ≡ true → max a b ≡ a
   unfolding max
   max-first h = rw h
@@ -111,6 +114,7 @@ module _ (a b : Float) where
   unfolding max
   max-second h n = rw (h, n)
 
+  -- the first where it is the smaller, the second where it is not and is no NaN
   pub min-first : lt a b ≡ true → min a b ≡ a
   unfolding min
   min-first h = rw h
@@ -168,6 +172,7 @@ module _ (a b : Float) where
       go true p = le-of-lt-true a b p
       go false p = le-itself b n
 
+  -- What is at least both is at least their `max`; what is at most both is at most their `min`.
   pub max-le : (c : Float) → le a c ≡ true → le b c ≡ true → le (max a b) c ≡ true
   max-le c p q = max-keeps a b (λ (x : Float). le x c ≡ true) p q
 

@@ -34,10 +34,11 @@ clear-below (inf false) s h = absurd (false≢true h)
 clear-below (fin true m e) s h = absurd (true≢false s)
 clear-below (fin false m e) s h = tt
 
+-- by two tests: a NaN and +∞ fail the second
 pub amount-of : (x : Float) → fits binary64 x ≡ true → is-sign-negative x ≡ false → le x 1e12 ≡ true → Amount x
 amount-of x p s h = upto-le x (clear-below x s h) (passed (fits binary64 x) p) h 1e12-amount
 
--- the same by the three refusals: not finite, sign bit set, above 1e12
+-- by the tests for a value that is not finite, has its sign bit set or is above 1e12
 pub amount-of-tests : (x : Float) → fits binary64 x ≡ true → is-finite x ≡ true → is-sign-negative x ≡ false
     → lt 1e12 x ≡ false → Amount x
 amount-of-tests x p f s h =

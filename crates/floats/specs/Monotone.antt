@@ -213,7 +213,7 @@ unfolding sub
 sub-mono x x' y y' p p' q q' h k =
     add-mono x x' (neg y) (neg y') p p' (neg-finite y q) (neg-finite y' q') h (le-neg y' y k)
 
--- as equations
+-- .. as equations
 module _ (x x' y y' : Float) (p : is-finite x ≡ true) (p' : is-finite x' ≡ true) (q : is-finite y ≡ true)
     (q' : is-finite y' ≡ true) where
   pub add-mono-true : le x x' ≡ true → le y y' ≡ true → le (x ⊕ y) (x' ⊕ y') ≡ true

@@ -102,6 +102,7 @@ cross→lt (fin false m e) (fin false n d) p q h =
 
 -- ---- values and fractions
 
+-- A plain value is its fraction, rounded.
 pub own : (x : Float) → T (plain x) → T (fits binary64 x) → round binary64 false (num x) (den x) ≡ x
 own nan p q = absurd p
 own (inf s) p q = absurd p
@@ -242,6 +243,7 @@ first-term : (a p b q : ℕ) → a * (p * q) ≤ (a * q + b * p) * p
 first-term a p b q =
     le-trans (le-of-eq (simp (mul-assoc, mul-comm))) (mul-le-mul-right p (le-add-right (a * q) (b * p)))
 
+-- A sum is at least each of its terms.
 pub add-ge-left : (x y : Float) → T (plain x) → T (plain y) → T (fits binary64 x) → T (le x (x ⊕ y))
 add-ge-left x y p q h =
     subst (λ (z : Float). T (le z (x ⊕ y))) (own x p h)

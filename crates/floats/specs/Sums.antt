@@ -69,6 +69,7 @@ one-more b c t = omega (arith, suc-mul c t)
 less-room : (b t r P : ℕ) → b + t + r ≤ P → b + t ≤ P
 less-room b t r P h = omega arith
 
+-- the start's units, and n for each term
 pub upto-sum : {k b n : ℕ} {a : Float} {xs : List Float} → Upto k b a → AllUpto k n xs → k ≤ 970
     → b + length xs * n ≤ 2 ^ 53 → Upto k (b + length xs * n) (sum-from a xs)
 unfolding sum-from
@@ -90,6 +91,7 @@ upto-sum-zero {k} {n} {xs} m us c h l =
     let s = scaled m n (length xs) c in
     upto-more (m * n) (upto-sum (upto-zero k 0) us h (le-trans s l)) s
 
+-- A sum is an f64 wherever its start is one.
 pub sum-fits : (a : Float) (xs : List Float) → T (fits binary64 a) → T (fits binary64 (sum-from a xs))
 unfolding sum-from
 sum-fits a [] h = h
@@ -123,11 +125,13 @@ pub sum-start : (a : Float) (xs : List Float) → sum-from a (take 0 xs) ≡ a
 unfolding sum-from
 sum-start a xs = refl
 
+-- one more term at the end
 pub sum-snoc : (a : Float) (xs : List Float) (x : Float) → sum-from a (xs ++ (x ∷ [])) ≡ sum-from a xs ⊕ x
 unfolding sum-from
 sum-snoc a [] x = refl
 sum-snoc a (y ∷ ys) x = sum-snoc (a ⊕ y) ys x
 
+-- .. by the index of a loop
 pub sum-take : (a : Float) (xs : List Float) (i : ℕ) (d : Float) → i < length xs
     → sum-from a (take (i + 1) xs) ≡ sum-from a (take i xs) ⊕ getD xs i d
 sum-take a xs i d h =

@@ -93,6 +93,7 @@ bound k n h l =
       most = le-of-eq (sym (mul-one (num y)) ∙ value-cross y false (n * 2 ^ k) 1 v);
     }
 
+-- It is at most the bound, which rounds to itself.
 pub upto-round : (k n a c : ℕ) → k ≤ 970 → n ≤ 2 ^ 53 → 0 < c → a ≤ n * 2 ^ k * c
     → Upto k n (round binary64 false a c)
 upto-round k n a c h l C g =
@@ -145,6 +146,7 @@ sum-bound A B p q a b K h g =
     le-trans (mul-le-mul-right p g) (le-of-eq (mul-assoc (b * K) q p ∙ ap (λ (z : ℕ). b * K * z) (mul-comm q p))) in
     simp add-mul (add-le-add x y)
 
+-- The units add up.
 pub upto-add : {k a b : ℕ} {x y : Float} → Upto k a x → Upto k b y → k ≤ 970 → a + b ≤ 2 ^ 53 → Upto k (a + b) (x ⊕ y)
 upto-add {k} {a} {b} {x} {y} u v h l =
     subst (λ (z : Float). Upto k (a + b) z) (sym (add-is x y (u .clear) (v .clear)))
@@ -165,6 +167,7 @@ difference-bound : (A B p q a K : ℕ) → A ≤ a * K * p → A * q - B ≤ a *
 difference-bound A B p q a K h =
     le-trans (sub-le (A * q) B) (le-trans (mul-le-mul-right q h) (le-of-eq (mul-assoc (a * K) p q)))
 
+-- It has x's bound.
 pub upto-sub : {k a j b : ℕ} {x y : Float} → Upto k a x → Upto j b y → le y x ≡ true → k ≤ 970 → a ≤ 2 ^ 53
     → Upto k a (x ⊖ y)
 upto-sub {k} {a} {j} {b} {x} {y} u v g h l =
@@ -177,6 +180,7 @@ upto-sub {k} {a} {j} {b} {x} {y} u v g h l =
 pub product-bound : (A B p q a b J K : ℕ) → A ≤ a * J * p → B ≤ b * K * q → A * B ≤ a * b * (J * K) * (p * q)
 product-bound A B p q a b J K h g = le-trans (mul-le-mul h g) (le-of-eq (simp (mul-assoc, mul-comm, mul-left-comm)))
 
+-- The numbers of units multiply, and the units too.
 pub upto-mul : {j k a b : ℕ} {x y : Float} → Upto j a x → Upto k b y → j + k ≤ 970 → a * b ≤ 2 ^ 53
     → Upto (j + k) (a * b) (x ⊗ y)
 upto-mul {j} {k} {a} {b} {x} {y} u v h l =
@@ -210,6 +214,7 @@ quotient-bound A dx N dy p q aJ nK P h g l =
     (le-trans (mul-le-mul-right (dx * N) l) (le-of-eq (simp (mul-assoc, mul-comm, mul-left-comm)))) in
     le-of-mul-le-mul-right (le-trans x (le-trans y z)) P
 
+-- n units of 2 ^ k are enough where a units of 2 ^ j over p / q are no more.
 pub upto-div : {j a p q : ℕ} {x y : Float} (k n : ℕ) → Upto j a x → Atleast p q y → 0 < p
     → a * 2 ^ j * q ≤ n * 2 ^ k * p → k ≤ 970 → n ≤ 2 ^ 53 → Upto k n (x ⊘ y)
 upto-div {j} {a} {p} {q} {x} {y} k n u v P g h l =

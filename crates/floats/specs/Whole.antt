@@ -255,6 +255,7 @@ nat-wait a r R h =
 
 -- ---- a sum of whole numbers, while it stays up to 2 ^ 53
 
+-- the sum of a list
 abbrev pub total : List ℕ → ℕ
 total [] = 0
 total (n ∷ ns) = n + total ns
