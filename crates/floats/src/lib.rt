@@ -1,4 +1,4 @@
-// The functions of Rust's f64 that a route planner calls, each as Rust has it for every f64.
+// The functions of Rust's f64 that a route planner calls, for every f64.
 ghost use mathlib.Core.Path.{_≡_};
 ghost use Rattle.floats.specs.Binary64.{+∞, is-finite, max, min, abs, is-sign-negative};
 
@@ -49,7 +49,7 @@ pub fn min(a: f64, b: f64) -> f64
     }
 }
 
-// Whether x has its sign bit set, as -0.0 has it; false at a NaN.
+// Whether x has its sign bit set, as -0.0 has it. At a NaN, whose sign has no meaning here, false.
 pub fn is_sign_negative(x: f64) -> bool
     ensures { λ r. ⌜ r ≡ is-sign-negative x ⌝ }
 {
