@@ -1,8 +1,12 @@
 -- The vocabulary of binary64, Rust's f64: the operators, the constants, and the functions that the code stands in for.
--- A `Float` is `nan`, an infinity `inf s`, or the number `fin s m e`, which is m * 2 ^ e, negative where s is true; zero keeps its sign.
--- Assumes nothing.
+-- A `Float` is `nan`, an infinity `inf s`, or the number `fin s m e`, which is m * 2 ^ e, negative where s is true;
+-- zero keeps its sign. Assumes nothing.
+use Prim.Native.Nat.{_-_, _^_}
 use mathlib.Core.Bool.{Bool, true, false, cond}
-use lib.Ieee.{Float, nan, inf, fin, binary64, add, sub, mul, div, lt, isNan, ofBits}
+use lib.IntN.{ℤ, pos, negsuc}
+use lib.Dec.{ltb}
+use lib.Signed.{ltZ}
+use lib.Ieee.{Float, nan, inf, fin, binary64, neg, add, sub, mul, div, lt, isNan, ofBits, toBits}
 
 -- ---- operators: Rust's `+`, `-`, `*`, `/` on f64, each the exact result rounded once
 
@@ -29,6 +33,10 @@ x ⊘ y = div binary64 x y
 -- the literal `0.0`
 abbrev pub 0f : Float
 0f = ofBits binary64 0
+
+-- the literal `-0.0`, where Rust's `sum` of f64s starts
+abbrev pub -0f : Float
+-0f = neg 0f
 
 -- the literal `1.0`
 abbrev pub 1f : Float
@@ -66,11 +74,12 @@ is-finite nan = false
 is-finite (inf s) = false
 is-finite (fin s m e) = true
 
--- Rust's `f64::max`: the larger; the other where exactly one is a NaN; of two that compare equal, which Rust leaves open, the second
+-- Rust's `f64::max`: the larger; the other where exactly one is a NaN; the second where the two are equal, as 0.0 and
+-- -0.0 are, of which Rust may return either
 unfoldable pub max : Float → Float → Float
 max a b = cond (lt b a) a (cond (isNan b) a b)
 
--- Rust's `f64::min`: the smaller; the other where exactly one is a NaN; of two that compare equal, which Rust leaves open, the second
+-- Rust's `f64::min`: the smaller; the other where exactly one is a NaN; the second where the two are equal, as above
 unfoldable pub min : Float → Float → Float
 min a b = cond (lt a b) a (cond (isNan b) a b)
 
@@ -79,3 +88,17 @@ unfoldable pub abs : Float → Float
 abs nan = nan
 abs (inf s) = inf false
 abs (fin s m e) = fin false m e
+
+-- Rust's `f64::is_sign_negative`: whether the sign bit is set, as it is in -0.0; a NaN has no sign here
+unfoldable pub is-sign-negative : Float → Bool
+is-sign-negative nan = false
+is-sign-negative (inf s) = s
+is-sign-negative (fin s m e) = s
+
+-- the bit pattern as Rust's `f64::total_cmp` reads it: 63 bits, counted down from -1 where the sign bit is set
+unfoldable pub total-rank : Float → ℤ
+total-rank x = cond (ltb (toBits binary64 x) (2 ^ 63)) (pos (toBits binary64 x)) (negsuc (toBits binary64 x - 2 ^ 63))
+
+-- Rust's `f64::total_cmp` says `Less`
+unfoldable pub total-less : Float → Float → Bool
+total-less x y = ltZ (total-rank x) (total-rank y)

@@ -1,6 +1,6 @@
-// The functions of Rust's f64 that a route planner calls, each as Rust has it for every f64.
+// The functions of Rust's f64 that a route planner calls, for every f64.
 ghost use mathlib.Core.Path.{_≡_};
-ghost use Rattle.floats.specs.Binary64.{+∞, is-finite, max, min, abs};
+ghost use Rattle.floats.specs.Binary64.{+∞, is-finite, max, min, abs, is-sign-negative};
 
 // +infinity, Rust's `f64::INFINITY`, which no constant can be here.
 pub fn infinity() -> f64
@@ -29,7 +29,7 @@ pub fn max(a: f64, b: f64) -> f64
 {
     if a > b {
         a
-    } else if b != b {
+    } else if b != b { // a NaN is never the larger
         a
     } else {
         b
@@ -42,9 +42,16 @@ pub fn min(a: f64, b: f64) -> f64
 {
     if a < b {
         a
-    } else if b != b {
+    } else if b != b { // a NaN is never the smaller
         a
     } else {
         b
     }
+}
+
+// Whether x has its sign bit set, as -0.0 has it. At a NaN, whose sign has no meaning here, false.
+pub fn is_sign_negative(x: f64) -> bool
+    ensures { λ r. ⌜ r ≡ is-sign-negative x ⌝ }
+{
+    if x == 0.0 { 1.0 / x < 0.0 } else { x < 0.0 }
 }

@@ -1,7 +1,7 @@
 -- `floats::is_finite` meets its contract: below +∞ in size are the numbers, and only those.
 -- Assumes nothing.
 use borrow.Author.Needs.{needs}
-use Rattle.floats.specs.Functions.{finite-laws}
+use Rattle.floats.proofs.Branches.{finite-tested}
 use Rattle.floats.proofs.is_finite.Statement.{statement}
 use Rattle.floats.proofs.is_finite.Tie as tie
 
@@ -12,7 +12,7 @@ infinity-requires : tie.Need-infinity-requires
 infinity-requires c κs = search needs
 
 returns : tie.Need-returns
-returns c = search finite-laws
+returns c = search finite-tested
 
 pub is-finite-spec : {M : Type 1} → statement M
 is-finite-spec = tie.close (tie.spec abs-requires infinity-requires returns)

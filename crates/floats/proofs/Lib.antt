@@ -1,0 +1,2 @@
+-- What the branches of the code return.
+pub mod Branches
