@@ -278,4 +278,5 @@ module _ (cs : Customers) (m : DistanceMatrix) (depot : ℕ) (l : RouteLimits) (
   feasible-missed x h ex e = feasible-late (set-out depot) x h refl ex e
 
 pub ruleset feasible-laws = (feasible-late, feasible-home, feasible-rested)
+
 pub ruleset trial-feasible-laws = (feasible-missed, feasible-walked, feasible-stuck, feasible-ridden)

@@ -173,4 +173,5 @@ module _ (cs : Customers) (m : DistanceMatrix) (depot : ℕ) (l : RouteLimits) (
   cost-priced e x v ee h ev = ev ∙ sym (ap worth (sym ee ∙ h))
 
 pub ruleset eval-laws = (eval-late, eval-home, eval-rested)
+
 pub ruleset cost-laws = (cost-infinite, cost-priced)

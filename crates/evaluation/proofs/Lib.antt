@@ -7,3 +7,5 @@ pub mod ScheduleLaws
 pub mod EvalLaws
 -- specs/Check, as the code of `check` and `trial` meets it
 pub mod CheckLaws
+-- specs/Bound, as the code of `bound` meets it
+pub mod BoundLaws

@@ -24,13 +24,20 @@ abbrev pub with-penalty : Float → Penalty → Float
 with-penalty most NoPenalty = most
 with-penalty most (PenaltyOf each) = max most each
 
+-- place c's part in each
+unfoldable pub later-window : List Float → List Float → List ℕ → ℕ → Float → Float
+later-window ready due flags c most = with-window most (window-at ready due flags c)
+
+unfoldable pub dearer-penalty : List Float → List ℕ → ℕ → Float → Float
+dearer-penalty penalty flags c most = with-penalty most (penalty-at penalty flags c)
+
 -- `ready`: the larger end of each window there is, and the largest of them
 unfoldable pub latest-window : List Float → List Float → List ℕ → Float
-latest-window ready due flags = loop (length flags) (λ c most. with-window most (window-at ready due flags c)) 0f
+latest-window ready due flags = loop (length flags) (later-window ready due flags) 0f
 
 -- `penalty`: of every place that has one, with a window or without
 unfoldable pub dearest-penalty : List Float → List ℕ → Float
-dearest-penalty penalty flags = loop (length flags) (λ c most. with-penalty most (penalty-at penalty flags c)) 0f
+dearest-penalty penalty flags = loop (length flags) (dearer-penalty penalty flags) 0f
 
 -- `slowest`: over every i and j below n, the diagonal and the depot included
 unfoldable pub slowest : DistanceMatrix → Float

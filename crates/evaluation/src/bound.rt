@@ -1,5 +1,8 @@
 // The most that the lateness of any plan can cost (`lateness_bound` of evaluation/mod.rs).
 ghost use mathlib.Core.Path.{_≡_};
+ghost use Prim.Native.Nat.{_≤_};
+ghost use lib.IntN.{pos};
+ghost use lib.Ieee.{binary64, ofInt};
 ghost use lib.ListN.{length};
 ghost use Rattle.models.specs.Customer.{customers};
 ghost use Rattle.models.specs.Problem.{matrix, Square, Fit};
@@ -72,6 +75,14 @@ fn slowest(n: usize, distances: &[f64], times: &[f64]) -> f64
     }
 }
 
+// A number of places as a float, exactly.
+fn count_as_float(n: usize) -> f64
+    requires { ⌜ n ≤ 256 ⌝ }
+    ensures { λ r. ⌜ r ≡ ofInt binary64 (pos n) ⌝ }
+{
+    n as f64
+}
+
 // The bound, 0 where no window is soft.
 pub fn lateness_bound(
     n: usize,
@@ -87,13 +98,13 @@ pub fn lateness_bound(
     ensures { λ r. ⌜ r ≡ lateness-bound (customers (now (service .entry)) (now (ready .entry)) (now (due .entry)) (now (penalty .entry)) (now (flags .entry)))
         (matrix n (now (distances .entry)) (now (times .entry))) ⌝ }
 {
-    if !has_soft_windows(flags) {
-        return 0.0;
+    if has_soft_windows(flags) {
+        let count = count_as_float(n);
+        let slow = slowest(n, distances, times);
+        let long = largest(service);
+        let late = latest_window(ready, due, flags);
+        let dear = dearest_penalty(penalty, flags);
+        return count * dear * (late + count * (slow + long));
     }
-    let count = n as f64;
-    let slow = slowest(n, distances, times);
-    let long = largest(service);
-    let late = latest_window(ready, due, flags);
-    let dear = dearest_penalty(penalty, flags);
-    count * dear * (late + count * (slow + long))
+    0.0
 }

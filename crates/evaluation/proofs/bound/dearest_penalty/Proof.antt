@@ -1,17 +1,20 @@
 -- `bound::dearest_penalty` meets its contract.
+use Prim.Native.Nat.{_-_}
 use borrow.Author.Needs.{needs}
-use Rattle.laws.specs.Picks.{picks}
-use Rattle.evaluation.proofs.bound.dearest_penalty.Tie as tie
+use lib.ListN.{length}
+use Rattle.evaluation.proofs.BoundLaws.{Before, place-laws}
+use Rattle.evaluation.specs.Bound.{dearer-penalty}
 use Rattle.evaluation.proofs.bound.dearest_penalty.Statement.{statement}
+use Rattle.evaluation.proofs.bound.dearest_penalty.Tie as tie
 
 abbrev Inv-loop : tie.InvT-loop
-Inv-loop penalty flags most₀ c₀ most c = ?
+Inv-loop penalty flags most₀ c₀ most c = Before (dearer-penalty penalty flags) flags most c
 
 abbrev μ-loop : tie.MeasureT-loop
-μ-loop penalty flags most₀ c₀ most c = ?
+μ-loop penalty flags most₀ c₀ most c = length flags - c
 
 loop-holds : tie.Need-loop-holds Inv-loop μ-loop
-loop-holds c = search needs
+loop-holds c = search place-laws
 
 penalty-at-requires : tie.Need-penalty-at-requires Inv-loop μ-loop
 penalty-at-requires c κs = search needs
@@ -26,10 +29,10 @@ loop-less : tie.Need-loop-less Inv-loop μ-loop
 loop-less c = search needs
 
 loop-again : tie.Need-loop-again Inv-loop μ-loop
-loop-again c = search needs
+loop-again c = search place-laws
 
 returns : tie.Need-returns Inv-loop μ-loop
-returns c = search picks
+returns c = search place-laws
 
 pub dearest-penalty-spec : {M : Type 1} → statement M
 dearest-penalty-spec =

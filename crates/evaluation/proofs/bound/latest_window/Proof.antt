@@ -1,17 +1,20 @@
 -- `bound::latest_window` meets its contract.
+use Prim.Native.Nat.{_-_}
 use borrow.Author.Needs.{needs}
-use Rattle.laws.specs.Picks.{picks}
-use Rattle.evaluation.proofs.bound.latest_window.Tie as tie
+use lib.ListN.{length}
+use Rattle.evaluation.proofs.BoundLaws.{Before, place-laws}
+use Rattle.evaluation.specs.Bound.{later-window}
 use Rattle.evaluation.proofs.bound.latest_window.Statement.{statement}
+use Rattle.evaluation.proofs.bound.latest_window.Tie as tie
 
 abbrev Inv-loop : tie.InvT-loop
-Inv-loop ready due flags most₀ c₀ most c = ?
+Inv-loop ready due flags most₀ c₀ most c = Before (later-window ready due flags) flags most c
 
 abbrev μ-loop : tie.MeasureT-loop
-μ-loop ready due flags most₀ c₀ most c = ?
+μ-loop ready due flags most₀ c₀ most c = length flags - c
 
 loop-holds : tie.Need-loop-holds Inv-loop μ-loop
-loop-holds c = search needs
+loop-holds c = search place-laws
 
 window-at-requires : tie.Need-window-at-requires Inv-loop μ-loop
 window-at-requires c κs = search needs
@@ -26,10 +29,10 @@ loop-less : tie.Need-loop-less Inv-loop μ-loop
 loop-less c = search needs
 
 loop-again : tie.Need-loop-again Inv-loop μ-loop
-loop-again c = search needs
+loop-again c = search place-laws
 
 returns : tie.Need-returns Inv-loop μ-loop
-returns c = search picks
+returns c = search place-laws
 
 pub latest-window-spec : {M : Type 1} → statement M
 latest-window-spec =

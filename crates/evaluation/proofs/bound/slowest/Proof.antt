@@ -1,8 +1,8 @@
 -- `bound::slowest` meets its contract.
 use borrow.Author.Needs.{needs}
-use Rattle.laws.specs.Picks.{picks}
-use Rattle.evaluation.proofs.bound.slowest.Tie as tie
+use Rattle.evaluation.proofs.BoundLaws.{slowest-laws}
 use Rattle.evaluation.proofs.bound.slowest.Statement.{statement}
+use Rattle.evaluation.proofs.bound.slowest.Tie as tie
 
 largest-requires : tie.Need-largest-requires
 largest-requires c κs = search needs
@@ -11,10 +11,10 @@ largest-requires-2 : tie.Need-largest-requires-2
 largest-requires-2 c κs = search needs
 
 returns : tie.Need-returns
-returns c = search picks
+returns c = search slowest-laws
 
 returns-2 : tie.Need-returns-2
-returns-2 c = search picks
+returns-2 c = search slowest-laws
 
 pub slowest-spec : {M : Type 1} → statement M
 slowest-spec = tie.close (tie.spec largest-requires largest-requires-2 returns returns-2)

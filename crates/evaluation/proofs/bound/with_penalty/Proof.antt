@@ -1,8 +1,8 @@
 -- `bound::with_penalty` meets its contract.
 use borrow.Author.Needs.{needs}
-use Rattle.laws.specs.Picks.{picks}
-use Rattle.evaluation.proofs.bound.with_penalty.Tie as tie
+use Rattle.evaluation.proofs.BoundLaws.{penalty-is}
 use Rattle.evaluation.proofs.bound.with_penalty.Statement.{statement}
+use Rattle.evaluation.proofs.bound.with_penalty.Tie as tie
 
 enum-told : tie.Need-enum-told
 enum-told c = search needs
@@ -17,7 +17,7 @@ returns : tie.Need-returns
 returns c = search needs
 
 returns-2 : tie.Need-returns-2
-returns-2 c = search picks
+returns-2 c = search penalty-is
 
 pub with-penalty-spec : {M : Type 1} → statement M
 with-penalty-spec =

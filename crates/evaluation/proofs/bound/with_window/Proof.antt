@@ -1,8 +1,8 @@
 -- `bound::with_window` meets its contract.
 use borrow.Author.Needs.{needs}
-use Rattle.laws.specs.Picks.{picks}
-use Rattle.evaluation.proofs.bound.with_window.Tie as tie
+use Rattle.evaluation.proofs.BoundLaws.{window-is}
 use Rattle.evaluation.proofs.bound.with_window.Statement.{statement}
+use Rattle.evaluation.proofs.bound.with_window.Tie as tie
 
 enum-told : tie.Need-enum-told
 enum-told c = search needs
@@ -20,7 +20,7 @@ returns : tie.Need-returns
 returns c = search needs
 
 returns-2 : tie.Need-returns-2
-returns-2 c = search picks
+returns-2 c = search window-is
 
 pub with-window-spec : {M : Type 1} → statement M
 with-window-spec =
