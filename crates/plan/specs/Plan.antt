@@ -1,5 +1,5 @@
 -- A plan, in place of `Vec<Vec<usize>>`: its routes, the two slices that stand for them, and the edits that the searches make. Assumes nothing.
-use Prim.Native.Nat.{ℕ, _+_, _-_}
+use Prim.Native.Nat.{ℕ, _+_, _-_, _≤_, _<_}
 use mathlib.Core.Path.{_≡_}
 use mathlib.Core.Bool.{Bool, true, false, not}
 use mathlib.Core.List.{List, [], _∷_, _++_, map}
@@ -58,6 +58,11 @@ written n plan = record { lengths = padded n (lengths-of plan); stops = flat pla
 pub record Holds (plan : Plan) (n : ℕ) (lengths stops : List ℕ) : Type 0 where
   pub routes : split lengths stops ≡ plan
   pub sum : total lengths ≡ n
+
+-- Two lent slices with a plan in them: the stops in use are there, and their number fits a length.
+pub record Lent (lengths stops : List ℕ) : Type 0 where
+  pub inside : total lengths ≤ length stops
+  pub few : length stops < 65536
 
 -- ---- edits. A route k is taken out by `erase k` and replaced by `set plan k`.
 

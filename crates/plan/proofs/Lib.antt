@@ -1,0 +1,5 @@
+-- Laws that this crate's proofs cite.
+-- the loops over lent cells
+pub mod CellLaws
+-- where a route lies, and the edits of the two slices
+pub mod PlanLaws

@@ -1,0 +1,98 @@
+-- Where a route lies among the stops, and the edits of the two slices, in the form that the proofs of the code want. Assumes nothing.
+use Prim.Native.Nat.{ℕ, zero, suc, _+_, _-_, _≤_, _<_, zero-le}
+use mathlib.Core.Path.{_≡_, refl, ap, sym, _∙_}
+use mathlib.Core.List.{List, [], _∷_, _++_}
+use native.Mathlib.Omega.{arith}
+use lib.ListN.{length, take, drop, getD, set}
+use mir.Syntax.{w16, w64}
+use mir.Val.{Fits}
+use Rattle.laws.specs.Edits.{insert-at, cut, cut-one}
+use Rattle.plan.specs.Plan.{Holds, Lent, split, route, total, offset, put-in, take-out}
+use Rattle.plan.specs.Slices.{offset-more, offset-all, route-within, stop-split}
+use Rattle.plan.specs.Routes.{put-in-slices, take-out-slices}
+
+-- ---- `offset`: the sum of the first i lengths of the first k
+
+pub record Summing (ls : List ℕ) (k sum i : ℕ) : Type 0 where
+  pub within : i ≤ k
+  pub there : k ≤ length ls
+  pub few : total ls < 65536
+  pub so-far : sum ≡ offset ls i
+
+module _ (ls : List ℕ) (k : ℕ) where
+  pub summing-none : k ≤ length ls → total ls < 65536 → Summing ls k 0 0
+  unfolding total
+  summing-none h f = record { within = zero-le; there = h; few = f; so-far = refl }
+
+  module _ (sum i : ℕ) (s : Summing ls k sum i) where
+    pub summing-more : i < k → Summing ls k (sum + getD ls i 0) (i + 1)
+    summing-more h =
+        record {
+          within = omega arith;
+          there = s .there;
+          few = s .few;
+          so-far = ap (λ (n : ℕ). n + getD ls i 0) (s .so-far) ∙ sym (offset-more ls i (omega (arith, s .there)));
+        }
+
+    pub summing-cast : i < k → Fits w64 (getD ls i 0)
+    summing-cast h = record { fits = omega (arith, s .few, route-within ls i (omega (arith, s .there))) }
+
+    pub summing-fits : i < k → Fits w64 (sum + getD ls i 0)
+    summing-fits h = record { fits = omega (arith, s .few, s .so-far, route-within ls i (omega (arith, s .there))) }
+
+    pub summing-all : k ≤ i → sum ≡ offset ls k
+    summing-all h =
+        let e : i ≡ k = omega (arith, s .within) in
+        rw (← e) (s .so-far)
+
+pub ruleset summing-laws = (summing-none, summing-more, summing-cast, summing-fits, summing-all)
+
+-- ---- a place in the plan: position pos of route k, where `at` is what `offset` says of k and `used` what it says of all
+
+module _ (ls s : List ℕ) (k : ℕ) (l : Lent ls s) (h : k < length ls) (at pos : ℕ) (a : at ≡ offset ls k) where
+  pub place-fits : pos ≤ getD ls k 0 → Fits w64 (at + pos)
+  place-fits g = record { fits = omega (arith, l .inside, l .few, route-within ls k h) }
+
+  pub stop-fits : pos < getD ls k 0 → Fits w64 (at + pos)
+  stop-fits g = record { fits = omega (arith, l .inside, l .few, route-within ls k h) }
+
+  module _ (used : ℕ) (u : used ≡ offset ls (length ls)) where
+    pub place-in-use : pos ≤ getD ls k 0 → at + pos ≤ used
+    place-in-use g = omega (arith, route-within ls k h, offset-all ls)
+
+    pub stop-in-use : pos < getD ls k 0 → at + pos + 1 ≤ used
+    stop-in-use g = omega (arith, route-within ls k h, offset-all ls)
+
+    pub stop-there : pos < getD ls k 0 → at + pos < length s
+    stop-there g = omega (arith, l .inside, route-within ls k h)
+
+    -- ---- what `put_in` and `take_out` leave
+
+    pub put-in-done : (c : ℕ) {s₁ : List ℕ} → pos ≤ getD ls k 0 → s₁ ≡ insert-at (at + pos) c (take used s) ++ drop (used + 1) s
+        → Holds (put-in k pos c (split ls s)) (total ls + 1) (set ls k (getD ls k 0 + 1)) s₁
+    put-in-done c g e =
+        let n : used ≡ total ls = u ∙ offset-all ls in
+        rw (e, n, a) (put-in-slices ls s k h (l .inside) pos c g)
+
+    pub take-out-done : {s₁ : List ℕ} → pos < getD ls k 0 → s₁ ≡ cut (at + pos) 1 (take used s) ++ drop (used - 1) s
+        → Holds (take-out k pos (split ls s)) (total ls - 1) (set ls k (getD ls k 0 - 1)) s₁
+    take-out-done g e =
+        let n : used ≡ total ls = u ∙ offset-all ls in
+        rw (e, n, a, cut-one (offset ls k + pos) (take (total ls) s)) (take-out-slices ls s k h (l .inside) pos g)
+
+    pub stop-is : pos < getD ls k 0 → getD s (at + pos) 0 ≡ getD (route k (split ls s)) pos 0
+    stop-is g = rw a (stop-split ls s (l .inside) k pos g)
+
+module _ (ls s : List ℕ) (used : ℕ) (u : used ≡ offset ls (length ls)) where
+  pub room-there : total ls < length s → used < length s
+  room-there g = omega (arith, offset-all ls)
+
+  pub used-there : Lent ls s → used ≤ length s
+  used-there l = omega (arith, l .inside, offset-all ls)
+
+pub length-fits : (ls s : List ℕ) (k : ℕ) → Lent ls s → k < length ls → total ls < length s → Fits w16 (getD ls k 0 + 1)
+length-fits ls s k l h g = record { fits = omega (arith, l .few, route-within ls k h) }
+
+pub ruleset place-laws = (place-fits, stop-fits, place-in-use, stop-in-use, stop-there, room-there, used-there, length-fits)
+
+pub ruleset edit-laws = (put-in-done, take-out-done, stop-is)
