@@ -7,9 +7,11 @@ use lib.ListN.{length, take, drop, getD, set}
 use mir.Syntax.{w16, w64}
 use mir.Val.{Fits}
 use Rattle.laws.specs.Edits.{insert-at, cut, cut-one}
-use Rattle.plan.specs.Plan.{Holds, Lent, split, route, total, offset, put-in, take-out}
-use Rattle.plan.specs.Slices.{offset-more, offset-all, route-within, stop-split}
+use Rattle.laws.specs.Exchanges.{swap, swap-parts}
+use Rattle.plan.specs.Plan.{Plan, Holds, Lent, split, route, total, offset, put-in, take-out, exchange-stops, exchange-tails}
+use Rattle.plan.specs.Slices.{offset-more, offset-all, route-within, route-before, stop-split}
 use Rattle.plan.specs.Routes.{put-in-slices, take-out-slices}
+use Rattle.plan.specs.Exchanges.{exchange-stops-slices, exchange-tails-slices, exchange-tails-comm}
 
 -- ---- `offset`: the sum of the first i lengths of the first k
 
@@ -56,15 +58,15 @@ module _ (ls s : List ℕ) (k : ℕ) (l : Lent ls s) (h : k < length ls) (at pos
   pub stop-fits : pos < getD ls k 0 → Fits w64 (at + pos)
   stop-fits g = record { fits = omega (arith, l .inside, l .few, route-within ls k h) }
 
+  pub stop-there : pos < getD ls k 0 → at + pos < length s
+  stop-there g = omega (arith, l .inside, route-within ls k h)
+
   module _ (used : ℕ) (u : used ≡ offset ls (length ls)) where
     pub place-in-use : pos ≤ getD ls k 0 → at + pos ≤ used
     place-in-use g = omega (arith, route-within ls k h, offset-all ls)
 
     pub stop-in-use : pos < getD ls k 0 → at + pos + 1 ≤ used
     stop-in-use g = omega (arith, route-within ls k h, offset-all ls)
-
-    pub stop-there : pos < getD ls k 0 → at + pos < length s
-    stop-there g = omega (arith, l .inside, route-within ls k h)
 
     -- ---- what `put_in` and `take_out` leave
 
@@ -93,6 +95,63 @@ module _ (ls s : List ℕ) (used : ℕ) (u : used ≡ offset ls (length ls)) whe
 pub length-fits : (ls s : List ℕ) (k : ℕ) → Lent ls s → k < length ls → total ls < length s → Fits w16 (getD ls k 0 + 1)
 length-fits ls s k l h g = record { fits = omega (arith, l .few, route-within ls k h) }
 
-pub ruleset place-laws = (place-fits, stop-fits, place-in-use, stop-in-use, stop-there, room-there, used-there, length-fits)
+pub length-cast : (ls s : List ℕ) (k : ℕ) → Lent ls s → k < length ls → Fits w64 (getD ls k 0)
+length-cast ls s k l h = record { fits = omega (arith, l .inside, l .few, route-within ls k h) }
+
+pub ruleset place-laws = (place-fits, stop-fits, stop-there, place-in-use, stop-in-use, room-there, used-there, length-fits, length-cast)
 
 pub ruleset edit-laws = (put-in-done, take-out-done, stop-is)
+
+-- ---- two routes a and b, and what `offset` says of them
+
+module _ (ls s : List ℕ) (a i b j : ℕ) (l : Lent ls s) (p q : ℕ) (ep : p ≡ offset ls a) (eq : q ≡ offset ls b) where
+  pub exchange-stops-done : {s₁ : List ℕ} → (a ≡ b → ⊥) → a < length ls → b < length ls → i < getD ls a 0 → j < getD ls b 0
+      → s₁ ≡ swap (p + i) (q + j) s → split ls s₁ ≡ exchange-stops a i b j (split ls s)
+  exchange-stops-done d h k hi hj e = rw (e, ep, eq) (exchange-stops-slices ls s a i b j d h k hi hj (l .inside))
+
+  module _ (h : a < b) (k : b < length ls) (hi : i ≤ getD ls a 0) (hj : j ≤ getD ls b 0) where
+    pub first-front-fits : Fits w64 (p + i)
+    first-front-fits = record { fits = omega (arith, l .inside, l .few, route-before ls a b h (omega arith), route-within ls b k) }
+
+    pub first-end-fits : Fits w64 (p + getD ls a 0)
+    first-end-fits = record { fits = omega (arith, l .inside, l .few, route-before ls a b h (omega arith), route-within ls b k) }
+
+    pub tails-apart : p + getD ls a 0 ≤ q + j
+    tails-apart = omega (arith, route-before ls a b h (omega arith))
+
+    pub tails-there : q + getD ls b 0 ≤ length s
+    tails-there = omega (arith, l .inside, route-within ls b k)
+
+    pub tails-kept : (w : List ℕ) → length s ≤ length w → q + getD ls b 0 - (p + i) ≤ length w
+    tails-kept w g = omega (arith, tails-there)
+
+    pub exchange-tails-done : {s₁ : List ℕ} → s₁ ≡ swap-parts (p + i) (p + getD ls a 0) (q + j) (q + getD ls b 0) s
+        → Holds (exchange-tails a i b j (split ls s)) (total ls) (set (set ls a (i + (getD ls b 0 - j))) b (j + (getD ls a 0 - i))) s₁
+    exchange-tails-done e = rw (e, ep, eq) (exchange-tails-slices ls s a i b j h k hi hj (l .inside))
+
+-- the new lengths fit
+module _ (ls s : List ℕ) (a i b j : ℕ) (l : Lent ls s) (h : a < b) (k : b < length ls) (hi : i ≤ getD ls a 0) (hj : j ≤ getD ls b 0) where
+  both : getD ls a 0 + getD ls b 0 < 65536
+  both = omega (arith, l .inside, l .few, route-before ls a b h (omega arith), route-within ls b k)
+
+  pub first-cast : Fits w64 (getD ls a 0)
+  first-cast = record { fits = omega (arith, both) }
+
+  pub first-fits : Fits w64 (i + (getD ls b 0 - j))
+  first-fits = record { fits = omega (arith, both) }
+
+  pub second-fits : Fits w64 (j + (getD ls a 0 - i))
+  second-fits = record { fits = omega (arith, both) }
+
+  pub first-stored : Fits w16 (i + (getD ls b 0 - j))
+  first-stored = record { fits = omega (arith, both) }
+
+  pub second-stored : Fits w16 (j + (getD ls a 0 - i))
+  second-stored = record { fits = omega (arith, both) }
+
+-- the other order
+pub exchange-tails-turned : (plan : Plan) (a i b j n : ℕ) (ls s : List ℕ) → (a ≡ b → ⊥) → Holds (exchange-tails b j a i plan) n ls s
+    → Holds (exchange-tails a i b j plan) n ls s
+exchange-tails-turned plan a i b j n ls s d h = rw (exchange-tails-comm a i b j plan d) h
+
+pub ruleset tails-laws = (place-fits, length-cast, first-cast, first-front-fits, first-end-fits, tails-apart, tails-there, tails-kept, first-fits, second-fits, first-stored, second-stored)
