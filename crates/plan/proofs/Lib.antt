@@ -3,3 +3,5 @@
 pub mod CellLaws
 -- where a route lies, and the edits of the two slices
 pub mod PlanLaws
+-- a route taken out, empty routes dropped, and the plan kept in work cells
+pub mod RestLaws

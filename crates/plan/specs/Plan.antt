@@ -54,6 +54,10 @@ pub record Slices : Type 0 where
 abbrev pub written : ℕ → Plan → Slices
 written n plan = record { lengths = padded n (lengths-of plan); stops = flat plan }
 
+-- work cells with both slices kept in the first of them
+abbrev pub saved : List ℕ → List ℕ → List ℕ → List ℕ
+saved lengths stops work = lengths ++ (stops ++ drop (length lengths + length stops) work)
+
 -- Two slices hold a plan of n stops: they split into it, and the lengths sum to n.
 pub record Holds (plan : Plan) (n : ℕ) (lengths stops : List ℕ) : Type 0 where
   pub routes : split lengths stops ≡ plan
