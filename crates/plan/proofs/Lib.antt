@@ -1,6 +1,4 @@
 -- Laws that this crate's proofs cite.
--- the loops over lent cells
-pub mod CellLaws
 -- where a route lies, and the edits of the two slices
 pub mod PlanLaws
 -- a route taken out, empty routes dropped, and the plan kept in work cells

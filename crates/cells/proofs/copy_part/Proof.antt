@@ -1,9 +1,9 @@
--- `cells::copy_part` meets its contract.
+-- `copy_part` meets its contract.
 use Prim.Native.Nat.{_-_}
 use borrow.Author.Needs.{needs}
-use Rattle.plan.proofs.CellLaws.{Copying, copying-laws}
-use Rattle.plan.proofs.cells.copy_part.Tie as tie
-use Rattle.plan.proofs.cells.copy_part.Statement.{statement}
+use Rattle.cells.proofs.CellLaws.{Copying, copying-laws}
+use Rattle.cells.proofs.copy_part.Tie as tie
+use Rattle.cells.proofs.copy_part.Statement.{statement}
 
 abbrev Inv-loop : tie.InvT-loop
 Inv-loop dst₀ at src from n i₀ dst i = Copying dst₀ at src from n dst i

@@ -1,8 +1,8 @@
--- `cells::swap` meets its contract.
+-- `swap` meets its contract.
 use borrow.Author.Needs.{needs}
 use Rattle.laws.specs.Exchanges.{swap}
-use Rattle.plan.proofs.cells.swap.Tie as tie
-use Rattle.plan.proofs.cells.swap.Statement.{statement}
+use Rattle.cells.proofs.swap.Tie as tie
+use Rattle.cells.proofs.swap.Statement.{statement}
 
 mul-x : tie.Need-mul-x
 mul-x c = search needs

@@ -1,10 +1,10 @@
--- `cells::shift_left` meets its contract.
+-- `shift_left` meets its contract.
 use Prim.Native.Nat.{_-_}
 use lib.ListN.{length}
 use borrow.Author.Needs.{needs}
-use Rattle.plan.proofs.CellLaws.{Closing, closing-laws}
-use Rattle.plan.proofs.cells.shift_left.Tie as tie
-use Rattle.plan.proofs.cells.shift_left.Statement.{statement}
+use Rattle.cells.proofs.CellLaws.{Closing, closing-laws}
+use Rattle.cells.proofs.shift_left.Tie as tie
+use Rattle.cells.proofs.shift_left.Statement.{statement}
 
 abbrev Inv-loop : tie.InvT-loop
 Inv-loop tail₀ n end i₀ tail i = Closing tail₀ n tail i

@@ -1,8 +1,8 @@
--- `cells::swap_parts` meets its contract.
+-- `swap_parts` meets its contract.
 use borrow.Author.Needs.{needs}
 use Rattle.laws.specs.Exchanges.{swap-parts-copied}
-use Rattle.plan.proofs.cells.swap_parts.Tie as tie
-use Rattle.plan.proofs.cells.swap_parts.Statement.{statement}
+use Rattle.cells.proofs.swap_parts.Tie as tie
+use Rattle.cells.proofs.swap_parts.Statement.{statement}
 
 sub-m : tie.Need-sub-m
 sub-m c = search needs

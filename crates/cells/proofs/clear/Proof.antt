@@ -1,10 +1,10 @@
--- `cells::clear` meets its contract.
+-- `clear` meets its contract.
 use Prim.Native.Nat.{_-_}
 use lib.ListN.{length}
 use borrow.Author.Needs.{needs}
-use Rattle.plan.proofs.CellLaws.{Clearing, clearing-laws}
-use Rattle.plan.proofs.cells.clear.Tie as tie
-use Rattle.plan.proofs.cells.clear.Statement.{statement}
+use Rattle.cells.proofs.CellLaws.{Clearing, clearing-laws}
+use Rattle.cells.proofs.clear.Tie as tie
+use Rattle.cells.proofs.clear.Statement.{statement}
 
 abbrev Inv-loop : tie.InvT-loop
 Inv-loop cells₀ i₀ cells i = Clearing cells₀ cells i

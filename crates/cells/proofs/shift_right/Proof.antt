@@ -1,10 +1,10 @@
--- `cells::shift_right` meets its contract.
+-- `shift_right` meets its contract.
 use Prim.Native.Nat.{_-_}
 use lib.ListN.{length}
 use borrow.Author.Needs.{needs}
-use Rattle.plan.proofs.CellLaws.{Shifting, shifting-laws}
-use Rattle.plan.proofs.cells.shift_right.Tie as tie
-use Rattle.plan.proofs.cells.shift_right.Statement.{statement}
+use Rattle.cells.proofs.CellLaws.{Shifting, shifting-laws}
+use Rattle.cells.proofs.shift_right.Tie as tie
+use Rattle.cells.proofs.shift_right.Statement.{statement}
 
 abbrev Inv-loop : tie.InvT-loop
 Inv-loop tail₀ c carry₀ i₀ tail carry i = Shifting tail₀ c tail carry i

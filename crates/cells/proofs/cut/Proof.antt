@@ -1,8 +1,8 @@
--- `cells::cut` meets its contract.
+-- `cut` meets its contract.
 use borrow.Author.Needs.{needs}
-use Rattle.plan.proofs.CellLaws.{cut-out}
-use Rattle.plan.proofs.cells.cut.Tie as tie
-use Rattle.plan.proofs.cells.cut.Statement.{statement}
+use Rattle.cells.proofs.CellLaws.{cut-out}
+use Rattle.cells.proofs.cut.Tie as tie
+use Rattle.cells.proofs.cut.Statement.{statement}
 
 mul-shift-left : tie.Need-mul-shift-left
 mul-shift-left c = search needs

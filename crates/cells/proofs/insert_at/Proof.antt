@@ -1,8 +1,8 @@
--- `cells::insert_at` meets its contract.
+-- `insert_at` meets its contract.
 use borrow.Author.Needs.{needs}
-use Rattle.plan.proofs.CellLaws.{inserted}
-use Rattle.plan.proofs.cells.insert_at.Tie as tie
-use Rattle.plan.proofs.cells.insert_at.Statement.{statement}
+use Rattle.cells.proofs.CellLaws.{inserted}
+use Rattle.cells.proofs.insert_at.Tie as tie
+use Rattle.cells.proofs.insert_at.Statement.{statement}
 
 add-shift-right : tie.Need-add-shift-right
 add-shift-right c = search needs
