@@ -1,7 +1,7 @@
 -- The elements of a list that pass a test, in order: `Vec::retain`. Assumes nothing.
 use Prim.Native.Nat.{suc, _≤_}
-use mathlib.Core.Path.{_≡_, refl, ap}
-use mathlib.Core.Bool.{Bool, true, false, cond}
+use mathlib.Core.Path.{_≡_, refl, ap, sym, _∙_}
+use mathlib.Core.Bool.{Bool, true, false, cond, true≢false, _&&_}
 use mathlib.Core.List.{List, [], _∷_, _++_, append-assoc, map}
 use native.Mathlib.Nat.{le-refl}
 use native.Mathlib.Omega.{arith}
@@ -55,6 +55,16 @@ module _ {A : Type 0} (f : A → Bool) where
       go true e h = all-cons e h
       go false e h = h
 
+  -- what all that are kept have, each that passes has
+  pub all-kept : {P : A → Type 0} (xs : List A) → All P (keep f xs) → All (λ x. f x ≡ true → P x) xs
+  unfolding keep
+  all-kept [] a = all-nil
+  all-kept {P} (x ∷ xs) a = go (f x) refl a (λ b. all-kept xs b)
+    where
+      go : (b : Bool) → f x ≡ b → All P (cond b (x ∷ []) [] ++ keep f xs) → (All P (keep f xs) → All (λ y. f y ≡ true → P y) xs) → All (λ y. f y ≡ true → P y) (x ∷ xs)
+      go true e (all-cons p b) rest = all-cons (λ _. p) (rest b)
+      go false e b rest = all-cons (λ t. absurd (true≢false (sym t ∙ e))) (rest b)
+
   -- where each passes, all are kept
   pub keep-all : {xs : List A} → All (λ x. f x ≡ true) xs → keep f xs ≡ xs
   unfolding keep
@@ -85,4 +95,15 @@ keep-map {A} {B} f g (x ∷ xs) = go (f (g x)) (keep-map f g xs)
   where
     go : (b : Bool) → keep f (map g xs) ≡ map g (keep (λ y. f (g y)) xs) → cond b (g x ∷ []) [] ++ keep f (map g xs) ≡ map g (cond b (x ∷ []) [] ++ keep (λ y. f (g y)) xs)
     go true e = ap (λ (l : List B). g x ∷ l) e
+    go false e = e
+
+-- one test after the other is both at once
+pub keep-both : {A : Type 0} (f g : A → Bool) (xs : List A) → keep g (keep f xs) ≡ keep (λ x. f x && g x) xs
+unfolding keep
+keep-both f g [] = refl
+keep-both {A} f g (x ∷ xs) = go (f x) (keep-both f g xs)
+  where
+    go : (b : Bool) → keep g (keep f xs) ≡ keep (λ y. f y && g y) xs
+        → keep g (cond b (x ∷ []) [] ++ keep f xs) ≡ cond (b && g x) (x ∷ []) [] ++ keep (λ y. f y && g y) xs
+    go true e = ap (λ (l : List A). cond (g x) (x ∷ []) [] ++ l) e
     go false e = e
