@@ -1,10 +1,10 @@
 -- The loops over lent cells: what each has done before turn i, kept by a turn, and enough at the end. Assumes nothing.
-use Prim.Native.Nat.{ℕ, zero, suc, _+_, _-_, _≤_, _<_, zero-le}
-use mathlib.Core.Path.{_≡_, refl, ap, sym, _∙_}
-use mathlib.Core.List.{List, [], _∷_, _++_}
+use Prim.Native.Nat.{ℕ, _+_, _-_, _≤_, _<_, zero-le}
+use mathlib.Core.Path.{_≡_, refl, sym, _∙_}
+use mathlib.Core.List.{List, _∷_, _++_}
 use native.Mathlib.Numerals.{add-one}
 use native.Mathlib.Omega.{arith}
-use lib.ListN.{length, take, drop, getD, set, replicate, length-set, length-drop, length-take, length-replicate, getD-replicate}
+use lib.ListN.{length, take, drop, getD, set, replicate, length-set, length-drop, length-replicate, getD-replicate}
 use lib.Seq.{paste, paste-zero, paste-suc, take-all, getD-drop}
 use Rattle.laws.specs.Lists.{shift-in, shift-out-part, length-part}
 use Rattle.laws.specs.Edits.{insert-at, cut}

@@ -3,3 +3,5 @@
 pub mod PlanLaws
 -- a route taken out, empty routes dropped, and the plan kept in work cells
 pub mod RestLaws
+-- picks in the order by length
+pub mod OrderLaws

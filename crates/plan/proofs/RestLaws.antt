@@ -2,17 +2,15 @@
 -- Assumes nothing.
 use Prim.Native.Nat.{ℕ, zero, suc, _+_, _-_, _≤_, _<_, zero-le}
 use mathlib.Core.Path.{_≡_, refl, ap, sym, _∙_}
-use mathlib.Core.Bool.{true, false, cond, not}
+use mathlib.Core.Bool.{not}
 use mathlib.Core.List.{List, [], _∷_, _++_, append-nil, append-assoc}
 use native.Mathlib.Nat.{zero-add}
 use native.Mathlib.Numerals.{add-one}
 use native.Mathlib.Omega.{arith}
-use lib.ListN.{length, take, drop, getD, set, replicate, length-append, length-set, length-drop, drop-of-length-le}
+use lib.ListN.{length, take, drop, getD, set, replicate, length-set, length-drop, drop-of-length-le}
 use lib.Seq.{take-length, take-all, take-suc, drop-cons, set-at, take-set-le, take-suc-set, drop-set-lt, length-take-le, paste, take-at, drop-at, drop-drop, getD-drop}
 use lib.Dec.{eqb, eqb·suc-zero}
 use borrow.Author.Tests.{eq-eqb, ne-eqb}
-use mir.Syntax.{w64}
-use mir.Val.{Fits}
 use Rattle.laws.specs.Edits.{erase, cut, cut-one, length-erase}
 use Rattle.laws.specs.Keeps.{keep, keep-append}
 use Rattle.plan.specs.Plan.{Holds, Lent, split, total, offset, padded, saved, drop-zero}

@@ -6,6 +6,7 @@ ghost use lib.ListN.{length, getD, take, drop};
 ghost use Rattle.laws.specs.Edits.{erase};
 ghost use Rattle.plan.specs.Plan.{Holds, Lent, split, route, total, offset, padded, saved, put-in, take-out, exchange-stops, exchange-tails, drop-zero};
 
+pub mod order;
 
 // Where route k begins among the stops.
 pub fn offset(lengths: &[u16], k: usize) -> usize
