@@ -10,7 +10,7 @@ use lib.ListN.{length, take, drop, getD, set, length-append, length-drop, take-a
 use lib.Seq.{take-all, take-append-seam, drop-append-seam, length-take-le, take-add, take-take, drop-drop, getD-take, getD-drop}
 use Rattle.laws.specs.All.{All, all-nil, all-cons, all-append}
 use Rattle.laws.specs.Edits.{erase}
-use Rattle.plan.specs.Plan.{Plan, route, split, flat, lengths-of, total, offset, Holds}
+use Rattle.plan.specs.Plan.{Plan, route, split, flat, lengths-of, total, offset, Holds, Lent}
 
 -- ---- there and back
 
@@ -160,6 +160,22 @@ module _ (ls s : List ℕ) (u : total ls ≤ length s) where
   pub holds-self : Holds (split ls s) (total ls) ls s
   holds-self = record { routes = refl; sum = refl }
 
+-- a place or a stop of a route, by the list of routes and by the lengths
+module _ (ls s : List ℕ) (l : Lent ls s) (k pos : ℕ) where
+  pub place-by-length : pos ≤ length (route k (split ls s)) → pos ≤ getD ls k 0
+  place-by-length h = rw (length-route ls s (l .inside) k) at h
+
+  pub stop-by-length : pos < length (route k (split ls s)) → pos < getD ls k 0
+  stop-by-length h = rw (length-route ls s (l .inside) k) at h
+
+  pub place-by-route : pos ≤ getD ls k 0 → pos ≤ length (route k (split ls s))
+  place-by-route h = rw (length-route ls s (l .inside) k) h
+
+  pub stop-by-route : pos < getD ls k 0 → pos < length (route k (split ls s))
+  stop-by-route h = rw (length-route ls s (l .inside) k) h
+
+pub ruleset by-route = (place-by-route, stop-by-route)
+
 -- ---- slices that hold a plan
 
 module _ {plan : Plan} {n : ℕ} {ls s : List ℕ} (h : Holds plan n ls s) (u : n ≤ length s) where
@@ -168,6 +184,9 @@ module _ {plan : Plan} {n : ℕ} {ls s : List ℕ} (h : Holds plan n ls s) (u : 
 
   pub holds-stops : take n s ≡ flat plan
   holds-stops = rw (← h .sum) (sym (flat-split ls s)) ∙ ap flat (h .routes)
+
+  pub holds-length : (k : ℕ) → getD ls k 0 ≡ length (route k plan)
+  holds-length k = ap (λ (l : List ℕ). getD l k 0) holds-lengths ∙ lengths-get plan k
 
   pub holds-number : n ≡ length (flat plan)
   holds-number = sym (h .sum) ∙ ap total holds-lengths ∙ total-lengths plan

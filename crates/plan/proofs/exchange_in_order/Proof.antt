@@ -1,6 +1,6 @@
 -- `exchange_in_order` meets its contract.
 use borrow.Author.Needs.{needs}
-use Rattle.plan.proofs.PlanLaws.{exchange-tails-done, tails-laws}
+use Rattle.plan.proofs.PlanLaws.{exchange-tails-done, first-in-order, route-there, second-in-order, tails-in-order, tails-kept, tails-laws}
 use Rattle.plan.proofs.exchange_in_order.Tie as tie
 use Rattle.plan.proofs.exchange_in_order.Statement.{statement}
 
@@ -41,10 +41,11 @@ add-swap-parts-4 : tie.Need-add-swap-parts-4
 add-swap-parts-4 c = search (needs, tails-laws)
 
 swap-parts-requires : tie.Need-swap-parts-requires
-swap-parts-requires c κs = search (needs, tails-laws)
+swap-parts-requires c κs =
+    (search first-in-order, search tails-in-order, search second-in-order, search route-there, search tails-kept)
 
 sub-lengths : tie.Need-sub-lengths
-sub-lengths c = search needs
+sub-lengths c = search (needs, tails-laws)
 
 add-lengths : tie.Need-add-lengths
 add-lengths c = search (needs, tails-laws)
@@ -59,7 +60,7 @@ slice-write-lengths : tie.Need-slice-write-lengths
 slice-write-lengths c = search needs
 
 sub-lengths-2 : tie.Need-sub-lengths-2
-sub-lengths-2 c = search needs
+sub-lengths-2 c = search (needs, tails-laws)
 
 add-lengths-2 : tie.Need-add-lengths-2
 add-lengths-2 c = search (needs, tails-laws)

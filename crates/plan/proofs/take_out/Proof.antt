@@ -29,7 +29,7 @@ slice-read-lengths : tie.Need-slice-read-lengths
 slice-read-lengths c = search needs
 
 sub-lengths : tie.Need-sub-lengths
-sub-lengths c = search needs
+sub-lengths c = search (needs, place-laws)
 
 slice-write-lengths : tie.Need-slice-write-lengths
 slice-write-lengths c = search needs
