@@ -2,7 +2,7 @@
 -- stops, of the number of stops, of how often a place occurs and of a property of every route; last, of the two slices.
 -- Assumes nothing.
 use Prim.Native.Nat.{ℕ, zero, suc, _+_, _-_, _≤_, _<_}
-use mathlib.Core.Path.{_≡_, refl, ap, sym}
+use mathlib.Core.Path.{_≡_, refl, ap, sym, _∙_}
 use mathlib.Core.List.{List, [], _∷_, _++_, append-assoc}
 use native.Mathlib.Nat.{le-of-suc-le-suc, not-suc-le-zero, add-assoc, zero-add, add-suc}
 use native.Mathlib.Omega.{arith}
@@ -54,6 +54,9 @@ module _ (k pos c : ℕ) (plan : Plan) where
   unfolding put-in
   route-put-in h = getD-set-same plan k (insert-at pos c (route k plan)) [] h
 
+  pub longer-put-in : k < length plan → pos ≤ length (route k plan) → length (route k (put-in k pos c plan)) ≡ length (route k plan) + 1
+  longer-put-in h g = ap length (route-put-in h) ∙ length-insert-at pos c (route k plan) g
+
   pub other-put-in : (j : ℕ) → (j ≡ k → ⊥) → route j (put-in k pos c plan) ≡ route j plan
   unfolding put-in
   other-put-in j h = getD-set-other plan k j (insert-at pos c (route k plan)) [] h
@@ -95,6 +98,9 @@ module _ (k pos : ℕ) (plan : Plan) where
   pub route-take-out : k < length plan → route k (take-out k pos plan) ≡ erase pos (route k plan)
   unfolding take-out
   route-take-out h = getD-set-same plan k (erase pos (route k plan)) [] h
+
+  pub shorter-take-out : k < length plan → pos < length (route k plan) → length (route k (take-out k pos plan)) + 1 ≡ length (route k plan)
+  shorter-take-out h g = ap (λ (r : List ℕ). length r + 1) (route-take-out h) ∙ omega (arith, length-erase pos (route k plan) g)
 
   pub other-take-out : (j : ℕ) → (j ≡ k → ⊥) → route j (take-out k pos plan) ≡ route j plan
   unfolding take-out
