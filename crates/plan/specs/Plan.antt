@@ -68,6 +68,16 @@ pub record Lent (lengths stops : List ℕ) : Type 0 where
   pub inside : total lengths ≤ length stops
   pub few : length stops < 65536
 
+-- the plan has a position for a stop: pos of route k, its end too
+pub record Has-position (plan : Plan) (k pos : ℕ) : Type 0 where
+  pub there : k < length plan
+  pub within : pos ≤ length (route k plan)
+
+-- the plan has a stop at pos of route k
+pub record Has-stop (plan : Plan) (k pos : ℕ) : Type 0 where
+  pub there : k < length plan
+  pub within : pos < length (route k plan)
+
 -- ---- edits. A route k is taken out by `erase k` and replaced by `set plan k`.
 
 -- `routes[k].insert(pos, c)`

@@ -11,7 +11,7 @@ use lib.Seq.{take-append-le, drop-append-le, take-append-add, drop-append-add, d
 use Rattle.laws.specs.All.{All, all-set}
 use Rattle.laws.specs.Edits.{insert-at, erase, cut, length-insert-at, length-erase}
 use Rattle.laws.specs.Counts.{count, count-append, count-insert-at, count-erase}
-use Rattle.plan.specs.Plan.{Plan, route, split, flat, lengths-of, total, offset, put-in, take-out, occurs, Holds}
+use Rattle.plan.specs.Plan.{Plan, route, split, flat, lengths-of, total, offset, put-in, take-out, occurs, Holds, Has-position, Has-stop}
 use Rattle.plan.specs.Slices.{split-is, lengths-split, flat-split, length-split, length-route, lengths-get, lengths-take, lengths-drop, lengths-append, total-lengths, total-set, total-erase, route-within}
 
 -- ---- route k replaced by r
@@ -57,6 +57,10 @@ module _ (k pos c : ℕ) (plan : Plan) where
   pub longer-put-in : k < length plan → pos ≤ length (route k plan) → length (route k (put-in k pos c plan)) ≡ length (route k plan) + 1
   longer-put-in h g = ap length (route-put-in h) ∙ length-insert-at pos c (route k plan) g
 
+  pub stop-put-in : Has-position plan k pos → Has-stop (put-in k pos c plan) k pos
+  stop-put-in g =
+      record { there = rw length-put-in (g .there); within = omega (arith, g .within, longer-put-in (g .there) (g .within)) }
+
   pub other-put-in : (j : ℕ) → (j ≡ k → ⊥) → route j (put-in k pos c plan) ≡ route j plan
   unfolding put-in
   other-put-in j h = getD-set-other plan k j (insert-at pos c (route k plan)) [] h
@@ -101,6 +105,15 @@ module _ (k pos : ℕ) (plan : Plan) where
 
   pub shorter-take-out : k < length plan → pos < length (route k plan) → length (route k (take-out k pos plan)) + 1 ≡ length (route k plan)
   shorter-take-out h g = ap (λ (r : List ℕ). length r + 1) (route-take-out h) ∙ omega (arith, length-erase pos (route k plan) g)
+
+  -- its position is still there, and so is each stop before it
+  pub position-take-out : Has-stop plan k pos → Has-position (take-out k pos plan) k pos
+  position-take-out g =
+      record { there = rw length-take-out (g .there); within = omega (arith, g .within, shorter-take-out (g .there) (g .within)) }
+
+  pub stop-take-out : (i : ℕ) → i < pos → Has-stop plan k pos → Has-stop (take-out k pos plan) k i
+  stop-take-out i h g =
+      record { there = rw length-take-out (g .there); within = omega (arith, g .within, shorter-take-out (g .there) (g .within)) }
 
   pub other-take-out : (j : ℕ) → (j ≡ k → ⊥) → route j (take-out k pos plan) ≡ route j plan
   unfolding take-out

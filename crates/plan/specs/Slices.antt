@@ -10,7 +10,7 @@ use lib.ListN.{length, take, drop, getD, set, length-append, length-drop, take-a
 use lib.Seq.{take-all, take-append-seam, drop-append-seam, length-take-le, take-add, take-take, drop-drop, getD-take, getD-drop}
 use Rattle.laws.specs.All.{All, all-nil, all-cons, all-append}
 use Rattle.laws.specs.Edits.{erase}
-use Rattle.plan.specs.Plan.{Plan, route, split, flat, lengths-of, total, offset, Holds, Lent}
+use Rattle.plan.specs.Plan.{Plan, route, split, flat, lengths-of, total, offset, Holds, Lent, Has-position, Has-stop}
 
 -- ---- there and back
 
@@ -160,21 +160,26 @@ module _ (ls s : List ℕ) (u : total ls ≤ length s) where
   pub holds-self : Holds (split ls s) (total ls) ls s
   holds-self = record { routes = refl; sum = refl }
 
--- a place or a stop of a route, by the list of routes and by the lengths
+-- a position or a stop of the plan, by the lengths
 module _ (ls s : List ℕ) (l : Lent ls s) (k pos : ℕ) where
-  pub place-by-length : pos ≤ length (route k (split ls s)) → pos ≤ getD ls k 0
-  place-by-length h = rw (length-route ls s (l .inside) k) at h
+  pub position-within : Has-position (split ls s) k pos → pos ≤ getD ls k 0
+  position-within g = rw (length-route ls s (l .inside) k) at (g .within)
 
-  pub stop-by-length : pos < length (route k (split ls s)) → pos < getD ls k 0
-  stop-by-length h = rw (length-route ls s (l .inside) k) at h
+  pub stop-within : Has-stop (split ls s) k pos → pos < getD ls k 0
+  stop-within g = rw (length-route ls s (l .inside) k) at (g .within)
 
-  pub place-by-route : pos ≤ getD ls k 0 → pos ≤ length (route k (split ls s))
-  place-by-route h = rw (length-route ls s (l .inside) k) h
+  pub has-position : k < length ls → pos ≤ getD ls k 0 → Has-position (split ls s) k pos
+  has-position h g = record { there = rw length-split h; within = rw (length-route ls s (l .inside) k) g }
 
-  pub stop-by-route : pos < getD ls k 0 → pos < length (route k (split ls s))
-  stop-by-route h = rw (length-route ls s (l .inside) k) h
+  pub has-stop : k < length ls → pos < getD ls k 0 → Has-stop (split ls s) k pos
+  has-stop h g = record { there = rw length-split h; within = rw (length-route ls s (l .inside) k) g }
 
-pub ruleset by-route = (place-by-route, stop-by-route)
+module _ (ls s : List ℕ) (k pos : ℕ) where
+  pub position-route : Has-position (split ls s) k pos → k < length ls
+  position-route g = rw length-split at (g .there)
+
+  pub stop-route : Has-stop (split ls s) k pos → k < length ls
+  stop-route g = rw length-split at (g .there)
 
 -- ---- slices that hold a plan
 
@@ -190,6 +195,14 @@ module _ {plan : Plan} {n : ℕ} {ls s : List ℕ} (h : Holds plan n ls s) (u : 
 
   pub holds-number : n ≡ length (flat plan)
   holds-number = sym (h .sum) ∙ ap total holds-lengths ∙ total-lengths plan
+
+-- what the plan has, the slices have
+module _ {plan : Plan} {n : ℕ} {ls s : List ℕ} (h : Holds plan n ls s) {k pos : ℕ} where
+  pub held-position : Has-position plan k pos → Has-position (split ls s) k pos
+  held-position g = rw (h .routes) g
+
+  pub held-stop : Has-stop plan k pos → Has-stop (split ls s) k pos
+  held-stop g = rw (h .routes) g
 
 -- with no free cells the slices are those of the plan
 pub holds-whole : {plan : Plan} {n : ℕ} {ls s : List ℕ} → Holds plan n ls s → n ≡ length s → s ≡ flat plan

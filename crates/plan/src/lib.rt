@@ -4,7 +4,7 @@ ghost use mathlib.Core.List.{_∷_, _++_, []};
 ghost use Prim.Native.Nat.{_+_, _-_, _≤_, _<_};
 ghost use lib.ListN.{length, getD, take, drop};
 ghost use Rattle.laws.specs.Edits.{erase};
-ghost use Rattle.plan.specs.Plan.{Holds, Lent, split, route, total, offset, padded, saved, put-in, take-out, exchange-stops, exchange-tails, drop-zero};
+ghost use Rattle.plan.specs.Plan.{Holds, Lent, Has-position, Has-stop, split, route, total, offset, padded, saved, put-in, take-out, exchange-stops, exchange-tails, drop-zero};
 
 pub mod order;
 
@@ -25,7 +25,7 @@ pub fn offset(lengths: &[u16], k: usize) -> usize
 // The stop c goes into route k at pos.
 pub fn put_in(lengths: &mut [u16], stops: &mut [u16], k: usize, pos: usize, c: u16)
     requires { ⌜ Lent (now lengths) (now stops) ⌝ }
-    requires { ⌜ (k < length (now lengths)) × (pos ≤ length (route k (split (now lengths) (now stops)))) × (total (now lengths) < length (now stops)) ⌝ }
+    requires { ⌜ Has-position (split (now lengths) (now stops)) k pos × (total (now lengths) < length (now stops)) ⌝ }
     ensures { λ _. ⌜ Holds (put-in k pos c (split (now (lengths .entry)) (now (stops .entry)))) (total (now (lengths .entry)) + 1) (now (lengths .exit)) (now (stops .exit)) ⌝ }
 {
     let used = offset(lengths, lengths.len());
@@ -37,7 +37,7 @@ pub fn put_in(lengths: &mut [u16], stops: &mut [u16], k: usize, pos: usize, c: u
 // The stop at pos of route k is taken out and returned.
 pub fn take_out(lengths: &mut [u16], stops: &mut [u16], k: usize, pos: usize) -> u16
     requires { ⌜ Lent (now lengths) (now stops) ⌝ }
-    requires { ⌜ (k < length (now lengths)) × (pos < length (route k (split (now lengths) (now stops)))) ⌝ }
+    requires { ⌜ Has-stop (split (now lengths) (now stops)) k pos ⌝ }
     ensures plan { λ _. ⌜ Holds (take-out k pos (split (now (lengths .entry)) (now (stops .entry)))) (total (now (lengths .entry)) - 1) (now (lengths .exit)) (now (stops .exit)) ⌝ }
     ensures stop { λ r. ⌜ r ≡ getD (route k (split (now (lengths .entry)) (now (stops .entry)))) pos 0 ⌝ }
 {
@@ -52,7 +52,7 @@ pub fn take_out(lengths: &mut [u16], stops: &mut [u16], k: usize, pos: usize) ->
 // The stop at i of route a and the stop at j of route b, another one, are exchanged.
 pub fn exchange_stops(stops: &mut [u16], lengths: &[u16], a: usize, i: usize, b: usize, j: usize)
     requires { ⌜ Lent (now lengths) (now stops) ⌝ }
-    requires { ⌜ (a ≡ b → ⊥) × (a < length (now lengths)) × (b < length (now lengths)) × (i < length (route a (split (now lengths) (now stops)))) × (j < length (route b (split (now lengths) (now stops)))) ⌝ }
+    requires { ⌜ (a ≡ b → ⊥) × Has-stop (split (now lengths) (now stops)) a i × Has-stop (split (now lengths) (now stops)) b j ⌝ }
     ensures { λ _. ⌜ split (now (lengths .entry)) (now (stops .exit)) ≡ exchange-stops a i b j (split (now (lengths .entry)) (now (stops .entry))) ⌝ }
 {
     let p = offset(lengths, a) + i;
@@ -71,7 +71,7 @@ fn exchange_in_order(
     j: usize,
 )
     requires { ⌜ Lent (now lengths) (now stops) ⌝ }
-    requires { ⌜ (a < b) × (b < length (now lengths)) × (i ≤ length (route a (split (now lengths) (now stops)))) × (j ≤ length (route b (split (now lengths) (now stops)))) × (length (now stops) ≤ length (now work)) ⌝ }
+    requires { ⌜ (a < b) × Has-position (split (now lengths) (now stops)) a i × Has-position (split (now lengths) (now stops)) b j × (length (now stops) ≤ length (now work)) ⌝ }
     ensures { λ _. ⌜ Holds (exchange-tails a i b j (split (now (lengths .entry)) (now (stops .entry)))) (total (now (lengths .entry))) (now (lengths .exit)) (now (stops .exit)) ⌝ }
 {
     let m = lengths[a] as usize;
@@ -94,7 +94,7 @@ pub fn exchange_tails(
     j: usize,
 )
     requires { ⌜ Lent (now lengths) (now stops) ⌝ }
-    requires { ⌜ (a ≡ b → ⊥) × (a < length (now lengths)) × (b < length (now lengths)) × (i ≤ length (route a (split (now lengths) (now stops)))) × (j ≤ length (route b (split (now lengths) (now stops)))) × (length (now stops) ≤ length (now work)) ⌝ }
+    requires { ⌜ (a ≡ b → ⊥) × Has-position (split (now lengths) (now stops)) a i × Has-position (split (now lengths) (now stops)) b j × (length (now stops) ≤ length (now work)) ⌝ }
     ensures { λ _. ⌜ Holds (exchange-tails a i b j (split (now (lengths .entry)) (now (stops .entry)))) (total (now (lengths .entry))) (now (lengths .exit)) (now (stops .exit)) ⌝ }
 {
     if a < b {

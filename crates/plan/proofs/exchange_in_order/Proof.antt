@@ -1,32 +1,34 @@
 -- `exchange_in_order` meets its contract.
+use lib.Seq.{lt-length-set}
 use borrow.Author.Needs.{needs}
-use Rattle.plan.proofs.PlanLaws.{exchange-tails-done, first-in-order, route-there, second-in-order, tails-in-order, tails-kept, tails-laws}
+use Rattle.plan.specs.Slices.{position-route}
+use Rattle.plan.proofs.PlanLaws.{exchange-tails-done, first-in-order, second-in-order, tails-in-order, tails-kept, tails-laws, tails-there}
 use Rattle.plan.proofs.exchange_in_order.Tie as tie
 use Rattle.plan.proofs.exchange_in_order.Statement.{statement}
 
 mul-m : tie.Need-mul-m
-mul-m c = search needs
+mul-m c = search (needs, tails-laws)
 
 slice-read-m : tie.Need-slice-read-m
-slice-read-m c = search needs
+slice-read-m c = search (needs, tails-laws)
 
 cast-m : tie.Need-cast-m
 cast-m c = search (needs, tails-laws)
 
 mul-n : tie.Need-mul-n
-mul-n c = search needs
+mul-n c = search (needs, tails-laws)
 
 slice-read-n : tie.Need-slice-read-n
-slice-read-n c = search needs
+slice-read-n c = search (needs, tails-laws)
 
 cast-n : tie.Need-cast-n
 cast-n c = search (needs, tails-laws)
 
 offset-requires : tie.Need-offset-requires
-offset-requires c κs = search needs
+offset-requires c κs = search (needs, tails-laws)
 
 offset-requires-2 : tie.Need-offset-requires-2
-offset-requires-2 c κs = search needs
+offset-requires-2 c κs = search (needs, tails-laws)
 
 add-swap-parts : tie.Need-add-swap-parts
 add-swap-parts c = search (needs, tails-laws)
@@ -42,7 +44,7 @@ add-swap-parts-4 c = search (needs, tails-laws)
 
 swap-parts-requires : tie.Need-swap-parts-requires
 swap-parts-requires c κs =
-    (search first-in-order, search tails-in-order, search second-in-order, search route-there, search tails-kept)
+    (search first-in-order, search tails-in-order, search second-in-order, search tails-there, search tails-kept)
 
 sub-lengths : tie.Need-sub-lengths
 sub-lengths c = search (needs, tails-laws)
@@ -54,10 +56,10 @@ cast-lengths : tie.Need-cast-lengths
 cast-lengths c = search (needs, tails-laws)
 
 mul-lengths : tie.Need-mul-lengths
-mul-lengths c = search needs
+mul-lengths c = search (needs, tails-laws)
 
 slice-write-lengths : tie.Need-slice-write-lengths
-slice-write-lengths c = search needs
+slice-write-lengths c = search (needs, tails-laws)
 
 sub-lengths-2 : tie.Need-sub-lengths-2
 sub-lengths-2 c = search (needs, tails-laws)
@@ -69,10 +71,10 @@ cast-lengths-2 : tie.Need-cast-lengths-2
 cast-lengths-2 c = search (needs, tails-laws)
 
 mul-lengths-2 : tie.Need-mul-lengths-2
-mul-lengths-2 c = search needs
+mul-lengths-2 c = search (needs, tails-laws)
 
 slice-write-lengths-2 : tie.Need-slice-write-lengths-2
-slice-write-lengths-2 c = search needs
+slice-write-lengths-2 c = search (lt-length-set, position-route)
 
 same-length : tie.Need-same-length
 same-length c = search needs

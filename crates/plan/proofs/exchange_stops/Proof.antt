@@ -5,13 +5,13 @@ use Rattle.plan.proofs.exchange_stops.Tie as tie
 use Rattle.plan.proofs.exchange_stops.Statement.{statement}
 
 offset-requires : tie.Need-offset-requires
-offset-requires c κs = search needs
+offset-requires c κs = search (needs, place-laws)
 
 add-p : tie.Need-add-p
 add-p c = search (needs, place-laws)
 
 offset-requires-2 : tie.Need-offset-requires-2
-offset-requires-2 c κs = search needs
+offset-requires-2 c κs = search (needs, place-laws)
 
 add-q : tie.Need-add-q
 add-q c = search (needs, place-laws)

@@ -5,10 +5,10 @@ use Rattle.plan.proofs.put_in.Tie as tie
 use Rattle.plan.proofs.put_in.Statement.{statement}
 
 offset-requires : tie.Need-offset-requires
-offset-requires c κs = search needs
+offset-requires c κs = search (needs, place-laws)
 
 offset-requires-2 : tie.Need-offset-requires-2
-offset-requires-2 c κs = search needs
+offset-requires-2 c κs = search (needs, place-laws)
 
 add-p : tie.Need-add-p
 add-p c = search (needs, place-laws)
@@ -17,16 +17,16 @@ insert-at-requires : tie.Need-insert-at-requires
 insert-at-requires c κs = search (needs, place-laws)
 
 mul-lengths : tie.Need-mul-lengths
-mul-lengths c = search needs
+mul-lengths c = search (needs, place-laws)
 
 slice-read-lengths : tie.Need-slice-read-lengths
-slice-read-lengths c = search needs
+slice-read-lengths c = search (needs, place-laws)
 
 add-lengths : tie.Need-add-lengths
 add-lengths c = search (needs, place-laws)
 
 slice-write-lengths : tie.Need-slice-write-lengths
-slice-write-lengths c = search needs
+slice-write-lengths c = search (needs, place-laws)
 
 same-length : tie.Need-same-length
 same-length c = search needs
