@@ -7,10 +7,18 @@ pub mod All
 pub mod Lists
 -- one element put in or taken out
 pub mod Edits
+-- two elements or two parts exchanged
+pub mod Exchanges
+-- how often a number occurs
+pub mod Counts
+-- the elements that pass a test
+pub mod Keeps
 -- a list whose front is being overwritten
 pub mod Overwrite
 -- counted loops and folds, and a loop over a list by its index
 pub mod Loops
+-- a stable sort by repeated picks of the first smallest
+pub mod Sorts
 -- searches over a list that end at the first hit
 pub mod Searches
 -- walks over stops that end at the first stop that cannot be served

@@ -9,6 +9,8 @@ use native.Mathlib.Numerals.{add-one}
 use native.Mathlib.Omega.{arith}
 use lib.ListN.{length, getD, drop, drop-of-length-le}
 use lib.Seq.{drop-cons}
+use lib.Dec.{ltb}
+use borrow.Author.Tests.{ltb-true, ltb-false}
 use Rattle.laws.specs.All.{All, all-nil, all-cons}
 
 -- what `for i in 0..n { s = f(i, s); }` leaves of s
@@ -38,6 +40,14 @@ pub foldl-rule : {A S : Type 0} (P : S → Type 0) (Q : A → Type 0) (f : S →
 unfolding foldl
 foldl-rule P Q f step all-nil base = base
 foldl-rule P Q f {s} step (all-cons {x = x} q a) base = foldl-rule P Q f step a (step s x q base)
+
+-- a turn more: what holds of each number below m, and of m
+pub up-to : {P : Type 0} (m j : ℕ) → j < suc m → (j < m → P) → (j ≡ m → P) → P
+up-to {P} m j k f g = go (ltb j m) refl
+  where
+    go : (t : Bool) → ltb j m ≡ t → P
+    go true e = f (ltb-true j m e)
+    go false e = g (omega (arith, ltb-false j m e))
 
 -- ---- a counted loop in code: the state before turn i is `loop i f s`
 

@@ -1,0 +1,189 @@
+-- Where a route lies among the stops, and the edits of the two slices, in the form that the proofs of the code want. Assumes nothing.
+use Prim.Native.Nat.{ℕ, _+_, _-_, _≤_, _<_, zero-le}
+use mathlib.Core.Path.{_≡_, refl, ap, sym, _∙_}
+use mathlib.Core.List.{List, _++_}
+use native.Mathlib.Omega.{arith}
+use lib.ListN.{length, take, drop, getD, set}
+use mir.Syntax.{w16, w64}
+use mir.Val.{Fits}
+use Rattle.laws.specs.Edits.{insert-at, cut, cut-one}
+use Rattle.laws.specs.Exchanges.{swap, swap-parts}
+use Rattle.plan.specs.Plan.{Plan, Holds, Lent, Has-position, Has-stop, split, route, total, offset, put-in, take-out, exchange-stops, exchange-tails}
+use Rattle.plan.specs.Slices.{offset-more, offset-all, route-within, route-before, stop-split, position-within, position-route, stop-within, stop-route}
+use Rattle.plan.specs.Routes.{put-in-slices, take-out-slices}
+use Rattle.plan.specs.Exchanges.{exchange-stops-slices, exchange-tails-slices, exchange-tails-comm}
+
+-- ---- `offset`: the sum of the first i lengths of the first k
+
+pub record Summing (ls : List ℕ) (k sum i : ℕ) : Type 0 where
+  pub within : i ≤ k
+  pub there : k ≤ length ls
+  pub few : total ls < 65536
+  pub so-far : sum ≡ offset ls i
+
+module _ (ls : List ℕ) (k : ℕ) where
+  pub summing-none : k ≤ length ls → total ls < 65536 → Summing ls k 0 0
+  unfolding total
+  summing-none h f = record { within = zero-le; there = h; few = f; so-far = refl }
+
+  module _ (sum i : ℕ) (s : Summing ls k sum i) where
+    pub summing-more : i < k → Summing ls k (sum + getD ls i 0) (i + 1)
+    summing-more h =
+        record {
+          within = omega arith;
+          there = s .there;
+          few = s .few;
+          so-far = ap (λ (n : ℕ). n + getD ls i 0) (s .so-far) ∙ sym (offset-more ls i (omega (arith, s .there)));
+        }
+
+    pub summing-cast : i < k → Fits w64 (getD ls i 0)
+    summing-cast h = record { fits = omega (arith, s .few, route-within ls i (omega (arith, s .there))) }
+
+    pub summing-fits : i < k → Fits w64 (sum + getD ls i 0)
+    summing-fits h = record { fits = omega (arith, s .few, s .so-far, route-within ls i (omega (arith, s .there))) }
+
+    pub summing-all : k ≤ i → sum ≡ offset ls k
+    summing-all h =
+        let e : i ≡ k = omega (arith, s .within) in
+        rw (← e) (s .so-far)
+
+pub ruleset summing-laws = (summing-none, summing-more, summing-cast, summing-fits, summing-all)
+
+-- ---- a position and a stop, where `at` is what `offset` says of their route and `used` what it says of all routes
+
+module _ (ls s : List ℕ) (k pos at : ℕ) (l : Lent ls s) (a : at ≡ offset ls k) where
+  module _ (g : Has-position (split ls s) k pos) where
+    pub position-fits : Fits w64 (at + pos)
+    position-fits = record { fits = omega (arith, l .inside, l .few, route-within ls k (position-route ls s k pos g), position-within ls s l k pos g) }
+
+    pub position-in-use : (used : ℕ) → used ≡ offset ls (length ls) → at + pos ≤ used
+    position-in-use used u = omega (arith, route-within ls k (position-route ls s k pos g), offset-all ls, position-within ls s l k pos g)
+
+    pub put-in-done : (used c : ℕ) {s₁ : List ℕ} → used ≡ offset ls (length ls) → s₁ ≡ insert-at (at + pos) c (take used s) ++ drop (used + 1) s
+        → Holds (put-in k pos c (split ls s)) (total ls + 1) (set ls k (getD ls k 0 + 1)) s₁
+    put-in-done used c u e =
+        let n : used ≡ total ls = u ∙ offset-all ls in
+        rw (e, n, a) (put-in-slices ls s k (position-route ls s k pos g) (l .inside) pos c (position-within ls s l k pos g))
+
+  module _ (g : Has-stop (split ls s) k pos) where
+    pub stop-fits : Fits w64 (at + pos)
+    stop-fits = record { fits = omega (arith, l .inside, l .few, route-within ls k (stop-route ls s k pos g), stop-within ls s l k pos g) }
+
+    pub stop-there : at + pos < length s
+    stop-there = omega (arith, l .inside, route-within ls k (stop-route ls s k pos g), stop-within ls s l k pos g)
+
+    pub stop-in-use : (used : ℕ) → used ≡ offset ls (length ls) → at + pos + 1 ≤ used
+    stop-in-use used u = omega (arith, route-within ls k (stop-route ls s k pos g), offset-all ls, stop-within ls s l k pos g)
+
+    pub stop-is : getD s (at + pos) 0 ≡ getD (route k (split ls s)) pos 0
+    stop-is = rw a (stop-split ls s (l .inside) k pos (stop-within ls s l k pos g))
+
+    pub take-out-done : (used : ℕ) {s₁ : List ℕ} → used ≡ offset ls (length ls) → s₁ ≡ cut (at + pos) 1 (take used s) ++ drop (used - 1) s
+        → Holds (take-out k pos (split ls s)) (total ls - 1) (set ls k (getD ls k 0 - 1)) s₁
+    take-out-done used u e =
+        let n : used ≡ total ls = u ∙ offset-all ls in
+        rw (e, n, a, cut-one (offset ls k + pos) (take (total ls) s)) (take-out-slices ls s k (stop-route ls s k pos g) (l .inside) pos (stop-within ls s l k pos g))
+
+module _ (ls s : List ℕ) (used : ℕ) (u : used ≡ offset ls (length ls)) where
+  pub room-there : total ls < length s → used < length s
+  room-there g = omega (arith, offset-all ls)
+
+  pub used-there : Lent ls s → used ≤ length s
+  used-there l = omega (arith, l .inside, offset-all ls)
+
+  pub route-in-use : (k at : ℕ) → k < length ls → at ≡ offset ls k → at + getD ls k 0 ≤ used
+  route-in-use k at h a = omega (arith, route-within ls k h, offset-all ls)
+
+module _ (ls s : List ℕ) (k : ℕ) (l : Lent ls s) where
+  pub length-fits : k < length ls → Fits w64 (getD ls k 0)
+  length-fits h = record { fits = omega (arith, l .inside, l .few, route-within ls k h) }
+
+  pub longer-fits : (pos : ℕ) → Has-position (split ls s) k pos → total ls < length s → Fits w16 (getD ls k 0 + 1)
+  longer-fits pos g r = record { fits = omega (arith, l .few, route-within ls k (position-route ls s k pos g)) }
+
+  pub shorter-there : (pos : ℕ) → Has-stop (split ls s) k pos → 1 ≤ getD ls k 0
+  shorter-there pos g = omega (arith, stop-within ls s l k pos g)
+
+  -- all lengths fit in a sum
+  pub total-few : total ls < 65536
+  total-few = omega (arith, l .inside, l .few)
+
+module _ (ls s : List ℕ) (k pos : ℕ) where
+  pub position-upto : Has-position (split ls s) k pos → k ≤ length ls
+  position-upto g = omega (arith, position-route ls s k pos g)
+
+  pub stop-upto : Has-stop (split ls s) k pos → k ≤ length ls
+  stop-upto g = omega (arith, stop-route ls s k pos g)
+
+pub ruleset place-laws = (position-route, position-upto, position-fits, position-in-use, stop-route, stop-upto, stop-fits, stop-there, stop-in-use, room-there, used-there, route-in-use, length-fits, longer-fits, shorter-there)
+
+pub ruleset edit-laws = (put-in-done, take-out-done, stop-is)
+
+-- ---- two routes a and b, and what `offset` says of them
+
+pub exchange-stops-done : (ls s : List ℕ) (a i b j p q : ℕ) {s₁ : List ℕ} → Lent ls s → p ≡ offset ls a → q ≡ offset ls b → (a ≡ b → ⊥)
+    → Has-stop (split ls s) a i → Has-stop (split ls s) b j → s₁ ≡ swap (p + i) (q + j) s → split ls s₁ ≡ exchange-stops a i b j (split ls s)
+exchange-stops-done ls s a i b j p q l ep eq d h k e =
+    rw (e, ep, eq) (exchange-stops-slices ls s a i b j d (stop-route ls s a i h) (stop-route ls s b j k) (stop-within ls s l a i h) (stop-within ls s l b j k) (l .inside))
+
+-- a before b
+module _ (ls s : List ℕ) (a i b j : ℕ) (l : Lent ls s) (h : a < b) (f : Has-position (split ls s) a i) (g : Has-position (split ls s) b j) where
+  first-cut : i ≤ getD ls a 0
+  first-cut = position-within ls s l a i f
+
+  second-cut : j ≤ getD ls b 0
+  second-cut = position-within ls s l b j g
+
+  lie : offset ls a + getD ls a 0 ≤ offset ls b
+  lie = route-before ls a b h (omega (arith, position-route ls s b j g))
+
+  end : offset ls b + getD ls b 0 ≤ length s
+  end = omega (arith, l .inside, route-within ls b (position-route ls s b j g))
+
+  -- the new lengths fit
+  pub first-fits : Fits w64 (i + (getD ls b 0 - j))
+  first-fits = record { fits = omega (arith, lie, end, l .few, first-cut) }
+
+  pub second-fits : Fits w64 (j + (getD ls a 0 - i))
+  second-fits = record { fits = omega (arith, lie, end, l .few, second-cut) }
+
+  pub first-stored : Fits w16 (i + (getD ls b 0 - j))
+  first-stored = record { fits = omega (arith, lie, end, l .few, first-cut) }
+
+  pub second-stored : Fits w16 (j + (getD ls a 0 - i))
+  second-stored = record { fits = omega (arith, lie, end, l .few, second-cut) }
+
+  module _ (p q : ℕ) (ep : p ≡ offset ls a) (eq : q ≡ offset ls b) where
+    pub first-in-order : p + i ≤ p + getD ls a 0
+    first-in-order = omega (arith, first-cut)
+
+    pub tails-in-order : p + getD ls a 0 ≤ q + j
+    tails-in-order = omega (arith, lie)
+
+    pub second-in-order : q + j ≤ q + getD ls b 0
+    second-in-order = omega (arith, second-cut)
+
+    pub tails-there : q + getD ls b 0 ≤ length s
+    tails-there = omega (arith, end)
+
+    pub tails-kept : (w : List ℕ) → length s ≤ length w → q + getD ls b 0 - (p + i) ≤ length w
+    tails-kept w r = omega (arith, end)
+
+    pub exchange-tails-done : {s₁ : List ℕ} → s₁ ≡ swap-parts (p + i) (p + getD ls a 0) (q + j) (q + getD ls b 0) s
+        → Holds (exchange-tails a i b j (split ls s)) (total ls) (set (set ls a (i + (getD ls b 0 - j))) b (j + (getD ls a 0 - i))) s₁
+    exchange-tails-done e = rw (e, ep, eq) (exchange-tails-slices ls s a i b j h (position-route ls s b j g) first-cut second-cut (l .inside))
+
+-- the end of a route with a position
+module _ (ls s : List ℕ) (k pos : ℕ) (l : Lent ls s) (g : Has-position (split ls s) k pos) where
+  pub position-length-fits : Fits w64 (getD ls k 0)
+  position-length-fits = length-fits ls s k l (position-route ls s k pos g)
+
+  pub end-fits : (at : ℕ) → at ≡ offset ls k → Fits w64 (at + getD ls k 0)
+  end-fits at a = record { fits = omega (arith, l .inside, l .few, route-within ls k (position-route ls s k pos g)) }
+
+pub ruleset tails-laws = (position-route, position-upto, position-within, position-fits, position-length-fits, end-fits, first-fits, second-fits, first-stored, second-stored)
+
+-- the other order
+pub exchange-tails-turned : (plan : Plan) (a i b j n : ℕ) (ls s : List ℕ) → (a ≡ b → ⊥) → Holds (exchange-tails b j a i plan) n ls s
+    → Holds (exchange-tails a i b j plan) n ls s
+exchange-tails-turned plan a i b j n ls s d h = rw (exchange-tails-comm a i b j plan d) h

@@ -1,0 +1,62 @@
+-- `take_out` meets its contract.
+use borrow.Author.Needs.{needs}
+use Rattle.plan.proofs.PlanLaws.{edit-laws, place-laws}
+use Rattle.plan.proofs.take_out.Tie as tie
+use Rattle.plan.proofs.take_out.Statement.{statement}
+
+offset-requires : tie.Need-offset-requires
+offset-requires c κs = search (needs, place-laws)
+
+offset-requires-2 : tie.Need-offset-requires-2
+offset-requires-2 c κs = search (needs, place-laws)
+
+add-p : tie.Need-add-p
+add-p c = search (needs, place-laws)
+
+mul-c : tie.Need-mul-c
+mul-c c = search (needs, place-laws)
+
+slice-read-c : tie.Need-slice-read-c
+slice-read-c c = search (needs, place-laws)
+
+cut-requires : tie.Need-cut-requires
+cut-requires c κs = search (needs, place-laws)
+
+mul-lengths : tie.Need-mul-lengths
+mul-lengths c = search (needs, place-laws)
+
+slice-read-lengths : tie.Need-slice-read-lengths
+slice-read-lengths c = search (needs, place-laws)
+
+sub-lengths : tie.Need-sub-lengths
+sub-lengths c = search (needs, place-laws)
+
+slice-write-lengths : tie.Need-slice-write-lengths
+slice-write-lengths c = search (needs, place-laws)
+
+same-length : tie.Need-same-length
+same-length c = search needs
+
+same-length-2 : tie.Need-same-length-2
+same-length-2 c = search needs
+
+returns : tie.Need-returns
+returns c = search edit-laws
+
+pub take-out-spec : {M : Type 1} → statement M
+take-out-spec =
+    tie.close
+    (tie.spec
+    offset-requires
+    offset-requires-2
+    add-p
+    mul-c
+    slice-read-c
+    cut-requires
+    mul-lengths
+    slice-read-lengths
+    sub-lengths
+    slice-write-lengths
+    same-length
+    same-length-2
+    returns)
