@@ -1,0 +1,139 @@
+-- Laws of one route: the load of a route with a stop put in, the check where it is not needed, what a feasible route keeps; and the cost of a
+-- plan is an f64. Assumes nothing.
+use Prim.Native.Nat.{ℕ, suc}
+use mathlib.Core.Path.{_≡_, refl, sym, ap, subst, _∙_}
+use mathlib.Core.List.{List, [], _∷_, _++_}
+use mathlib.Core.Bool.{Bool, true, false, cond, not, _&&_, _||_, true≢false, false≢true}
+use lib.ListN.{getD, take, drop, take-append-drop}
+use lib.IntN.{ℤ, pos as nonneg, _+ℤ_, +ℤ-idl, +ℤ-idr, +ℤ-assoc, +ℤ-comm}
+use lib.Dec.{T}
+use lib.Ieee.{Float, binary64, ofBits, fits as is-f64}
+use lib.Ieee.Fits.{add-fits}
+use Rattle.floats.specs.Binary64.{_⊕_, 0f}
+use Rattle.laws.specs.All.{All, all-default}
+use Rattle.laws.specs.Edits.{insert-at}
+use Rattle.laws.specs.Loops.{foldl}
+use Rattle.laws.specs.Searches.{any, any-none}
+use Rattle.laws.specs.Walks.{walk}
+use Rattle.models.specs.declared.vehicle.Limit.{Limit}
+use Rattle.models.specs.declared.vehicle.Limit.the-variants.{None as NoLimit, At as LimitAt}
+use Rattle.models.specs.declared.vehicle.Rest.{Rest}
+use Rattle.models.specs.declared.vehicle.Rest.the-variants.{None as NoRest, Break}
+use Rattle.models.specs.Customer.{Customers, customer-at, windowed, window-at}
+use Rattle.models.specs.Vehicle.{fixed-cost-in-distance}
+use Rattle.models.specs.RouteLimits.{NONE, limits-of, no-limit, no-rest, is-unlimited}
+use Rattle.models.specs.Problem.{DistanceMatrix, Problem, depot}
+use Rattle.evaluation.specs.declared.check.Way.{Way}
+use Rattle.evaluation.specs.Check.{has-time-windows, departure, departure-in, set-out, reach, reach-all, home-allowed, homeward, feasible-with, route-feasible}
+use Rattle.plan.specs.Plan.{Plan}
+use Rattle.local_search.specs.Route.{route-distance, cost}
+use Rattle.local_search.specs.Feasible.{demand-at, load, fits, has-room, constrained, passes, checked, feasible}
+
+-- ---- two tests that both pass
+
+pub both-left : (a b : Bool) → (a && b) ≡ true → a ≡ true
+both-left true b h = refl
+both-left false b h = h
+
+pub both-right : (a b : Bool) → (a && b) ≡ true → b ≡ true
+both-right true b h = h
+both-right false b h = absurd (false≢true h)
+
+-- ---- loads
+
+module _ (demand : List ℤ) where
+  load-from : (s : ℤ) (r : List ℕ) → foldl (λ sum c. sum +ℤ demand-at demand c) s r ≡ s +ℤ load demand r
+  unfolding foldl load
+  load-from s [] = sym (+ℤ-idr s)
+  load-from s (c ∷ r) =
+      let d = demand-at demand c in
+      load-from (s +ℤ d) r ∙ +ℤ-assoc s d (load demand r) ∙ ap (λ (z : ℤ). s +ℤ z) (sym (load-from (nonneg 0 +ℤ d) r ∙ ap (λ (z : ℤ). z +ℤ load demand r) (+ℤ-idl d)))
+
+  pub load-cons : (c : ℕ) (r : List ℕ) → load demand (c ∷ r) ≡ demand-at demand c +ℤ load demand r
+  unfolding foldl load
+  load-cons c r = load-from (nonneg 0 +ℤ demand-at demand c) r ∙ ap (λ (z : ℤ). z +ℤ load demand r) (+ℤ-idl (demand-at demand c))
+
+  pub load-append : (r s : List ℕ) → load demand (r ++ s) ≡ load demand r +ℤ load demand s
+  load-append [] s =
+      let none : load demand [] ≡ nonneg 0 = unfold load foldl in refl in
+      sym (ap (λ (z : ℤ). z +ℤ load demand s) none ∙ +ℤ-idl (load demand s))
+  load-append (c ∷ r) s =
+      let d = demand-at demand c in
+      load-cons c (r ++ s) ∙ ap (λ (z : ℤ). d +ℤ z) (load-append r s) ∙ sym (+ℤ-assoc d (load demand r) (load demand s)) ∙ ap (λ (z : ℤ). z +ℤ load demand s) (sym (load-cons c r))
+
+  -- a stop put in adds its demand, wherever it goes
+  pub load-insert : (pos c : ℕ) (r : List ℕ) → load demand (insert-at pos c r) ≡ load demand r +ℤ demand-at demand c
+  unfolding insert-at
+  load-insert pos c r =
+      let a = load demand (take pos r) in
+      let b = load demand (drop pos r) in
+      let d = demand-at demand c in
+      load-append (take pos r) (c ∷ drop pos r)
+      ∙ ap (λ (z : ℤ). a +ℤ z) (load-cons c (drop pos r) ∙ +ℤ-comm d b)
+      ∙ sym (+ℤ-assoc a b d)
+      ∙ ap (λ (z : ℤ). z +ℤ d) (sym (load-append (take pos r) (drop pos r)) ∙ ap (load demand) (take-append-drop pos r))
+
+-- the load test made before the stop is put in is the load test of the route with it
+pub has-room-fits : (p : Problem) (pos c : ℕ) (r : List ℕ) → fits p (load (p .demand) (insert-at pos c r)) ≡ has-room p r c
+unfolding has-room
+has-room-fits p pos c r = ap (fits p) (load-insert (p .demand) pos c r)
+
+-- ---- the check where it is not needed: no window is there to miss, and every distance and duration is allowed
+
+module _ (cs : Customers) (m : DistanceMatrix) (depot : ℕ) (none : has-time-windows (cs .flags) ≡ false) where
+  unwindowed : (c : ℕ) → windowed (getD (cs .flags) c 0) ≡ false
+  unfolding has-time-windows
+  unwindowed c = all-default {P = λ f. windowed f ≡ false} c (any-none windowed (cs .flags) none) refl
+
+  home-always : (stops : List ℕ) (w : Way) → homeward m depot NONE (reach-all cs m stops w) ≡ true
+  unfolding walk reach departure home-allowed
+  home-always [] w = refl
+  home-always (c ∷ rest) w = rw (unwindowed c) (home-always rest _)
+
+pub unneeded : (p : Problem) (r : List ℕ) → constrained p ≡ false → passes p r ≡ true
+unfolding route-feasible
+unneeded p r e = go (p .vehicle .«max_distance») (p .vehicle .«max_duration») (p .vehicle .rest) (neither (has-time-windows (p .places .flags)) (is-unlimited (limits-of (p .vehicle))) e)
+  where
+    neither : (a b : Bool) → (a || not b) ≡ false → (a ≡ false) × (b ≡ true)
+    neither true b h = absurd (true≢false h)
+    neither false true h = (refl, refl)
+    neither false false h = absurd (true≢false h)
+
+    go : (a b : Limit) (t : Rest) → (has-time-windows (p .places .flags) ≡ false) × ((no-limit a && (no-limit b && no-rest t)) ≡ true)
+        → feasible-with (p .places) (p .roads) (depot p) (record { «max_distance» = a; «max_duration» = b; rest = t }) r t ≡ true
+    go NoLimit NoLimit NoRest h = home-always (p .places) (p .roads) (depot p) (h .0) r (set-out (depot p))
+    go NoLimit NoLimit (Break x y z) h = absurd (false≢true (h .1))
+    go NoLimit (LimitAt y) t h = absurd (false≢true (h .1))
+    go (LimitAt x) b t h = absurd (false≢true (h .1))
+
+-- ---- what a feasible route keeps: "within capacity and passes the check"
+
+pub record Sound (p : Problem) (r : List ℕ) : Type 0 where
+  pub within-capacity : fits p (load (p .demand) r) ≡ true
+  pub passes-check : passes p r ≡ true
+
+checked-passes : (p : Problem) (r : List ℕ) → checked p r ≡ true → passes p r ≡ true
+checked-passes p r h = go (constrained p) refl h
+  where
+    go : (b : Bool) → constrained p ≡ b → (not b || passes p r) ≡ true → passes p r ≡ true
+    go true e h = h
+    go false e h = unneeded p r e
+
+pub feasible-sound : (p : Problem) (r : List ℕ) → feasible p r ≡ true → Sound p r
+unfolding feasible
+feasible-sound p r h =
+    let a = fits p (load (p .demand) r) in
+    record { within-capacity = both-left a (checked p r) h; passes-check = checked-passes p r (both-right a (checked p r) h) }
+
+-- ---- the cost of a plan is an f64
+
+pub cost-held : (p : Problem) (routes : Plan) → T (is-f64 binary64 (cost p routes))
+unfolding cost foldl ofBits is-f64
+cost-held p routes = from 0f routes tt
+  where
+    from : (s : Float) (routes : Plan) → T (is-f64 binary64 s)
+        → T (is-f64 binary64 (foldl (λ sum r. sum ⊕ (route-distance (p .roads) (depot p) r ⊕ fixed-cost-in-distance (p .vehicle))) s routes))
+    from s [] h = h
+    from s (r ∷ routes) h =
+        let more = route-distance (p .roads) (depot p) r ⊕ fixed-cost-in-distance (p .vehicle) in
+        from (s ⊕ more) routes (add-fits binary64 s more)
