@@ -1,0 +1,116 @@
+-- The attempt to move the stops of a route into the others one by one, and the search (route_elimination.rs, `eliminate_routes`).
+-- Assumes nothing.
+use Prim.Native.Nat.{ℕ, suc}
+use mathlib.Core.List.{List, [], _∷_, map, flatMap}
+use mathlib.Core.Bool.{Bool, cond, not, _&&_, _||_}
+use mathlib.Core.Option.{Option, none, some}
+use lib.ListN.{length}
+use lib.Signed.{ltZ}
+use lib.Ieee.{Float, lt, le}
+use Rattle.floats.specs.Binary64.{_⊕_, _⊖_, 0f, is-finite, total-less}
+use Rattle.laws.specs.Edits.{insert-at, erase}
+use Rattle.laws.specs.Keeps.{keep}
+use Rattle.laws.specs.Loops.{foldl}
+use Rattle.laws.specs.Sorts.{range, sort-by}
+use Rattle.models.specs.RouteLimits.{limits-of}
+use Rattle.models.specs.Vehicle.{fixed-cost-in-distance}
+use Rattle.models.specs.Problem.{Problem, depot}
+use Rattle.evaluation.specs.Eval.{effective-cost}
+use Rattle.evaluation.specs.Check.{has-soft-windows}
+use Rattle.plan.specs.Plan.{Plan, route, put-in}
+use Rattle.local_search.specs.Options.{bind, then-some}
+use Rattle.local_search.specs.Route.{route-distance, gain-floor, insertion-cost, Insertion}
+use Rattle.local_search.specs.Feasible.{demand-at, has-room, checked}
+use Rattle.local_search.specs.Rounds.{Counts, Tried, Result, reduce}
+
+-- ---- what a route is worth, and what an insertion costs
+
+-- `soft`
+abbrev pub soft : Problem → Bool
+soft p = has-soft-windows (p .places .flags)
+
+-- the closure `worth`: "With a soft window, worth is `effective_cost`."
+unfoldable pub worth : Problem → List ℕ → Float
+worth p r = cond (soft p) (effective-cost (p .places) (p .roads) (depot p) (limits-of (p .vehicle)) r) (route-distance (p .roads) (depot p) r)
+
+-- `cost`: with a soft window the change in worth, otherwise what the insertion adds to the distance
+unfoldable pub insertion-worth : Problem → List ℕ → ℕ → ℕ → Float
+insertion-worth p r pos c = cond (soft p) (worth p (insert-at pos c r) ⊖ worth p r) (insertion-cost (p .roads) (depot p) r pos c)
+
+-- ---- candidates
+
+-- the candidates for c in route k: every position, but for costs that are not finite where a window is soft
+unfoldable pub positions : Problem → ℕ → ℕ → List ℕ → List Insertion
+positions p c k r =
+    keep (λ x. not (soft p) || is-finite (x .cost))
+    (map (λ pos. record { cost = insertion-worth p r pos c; route = k; pos = pos }) (range 0 (suc (length r))))
+
+-- none in a route that has no room
+unfoldable pub candidates-in : Problem → ℕ → ℕ → List ℕ → List Insertion
+candidates-in p c k r = cond (has-room p r c) (positions p c k r) []
+
+-- over routes, then positions
+unfoldable pub candidates : Problem → ℕ → Plan → List Insertion
+candidates p c rest = flatMap (λ k. candidates-in p c k (route k rest)) (range 0 (length rest))
+
+-- read of no list
+abbrev pub nowhere : Insertion
+nowhere = record { cost = 0f; route = 0; pos = 0 }
+
+-- "candidates by cost, stable": `total_cmp`
+abbrev pub by-cost : List Insertion → List Insertion
+by-cost xs = sort-by (λ x y. total-less (x .cost) (y .cost)) nowhere xs
+
+-- the route of a candidate with c put in
+abbrev pub trial : Plan → ℕ → Insertion → List ℕ
+trial rest c x = insert-at (x .pos) c (route (x .route) rest)
+
+-- the first candidate that passes the check, where it is needed: "stop at added + cost ≥ saved"
+unfoldable pub first-passing : Problem → Plan → ℕ → Float → Float → List Insertion → Option Insertion
+first-passing p rest c added saved [] = none
+first-passing p rest c added saved (x ∷ xs) =
+    let later = first-passing p rest c added saved xs in
+    cond (le saved (added ⊕ x .cost)) none (cond (checked p (trial rest c x)) (some x) later)
+
+-- ---- one route
+
+-- the other routes so far, and what was added to their worth
+pub record Moved : Type 0 where
+  pub rest : Plan
+  pub added : Float
+
+-- c inserted; none once what was added is no less than what is saved
+unfoldable pub move-to : Float → ℕ → Moved → Insertion → Option Moved
+move-to saved c m x =
+    let added = m .added ⊕ x .cost in
+    then-some (not (le saved added)) (record { rest = put-in (x .route) (x .pos) c (m .rest); added = added })
+
+-- the body of `for c in moving`; none where c has no place
+unfoldable pub move-stop : Problem → Float → Moved → ℕ → Option Moved
+move-stop p saved m c = bind (first-passing p (m .rest) c (m .added) saved (by-cost (candidates p c (m .rest)))) (move-to saved c m)
+
+-- `moving`: "stops by demand descending, stable"
+unfoldable pub moving : Problem → List ℕ → List ℕ
+moving p r = sort-by (λ c d. ltZ (demand-at (p .demand) d) (demand-at (p .demand) c)) 0 r
+
+-- `for c in moving`, until one has no place
+unfoldable pub move-all : Problem → Float → List ℕ → Plan → Option Moved
+move-all p saved stops rest = foldl (λ m c. bind m (λ n. move-stop p saved n c)) (some (record { rest = rest; added = 0f })) stops
+
+-- "accept if added < saved − 1e-12 × the largest distance"
+unfoldable pub if-gained : Problem → Float → Moved → Option Plan
+if-gained p saved m = then-some (lt (m .added) (saved ⊖ gain-floor (p .roads))) (m .rest)
+
+-- the body of `for r in order`
+unfoldable pub without-route : Problem → Plan → ℕ → Option Plan
+without-route p routes r =
+    let saved = worth p (route r routes) ⊕ fixed-cost-in-distance (p .vehicle) in
+    cond (is-finite saved) (bind (move-all p saved (moving p (route r routes)) (erase r routes)) (if-gained p saved)) none
+
+-- an attempt counts neither steps nor draws
+unfoldable pub attempt : Problem → Plan → ℕ → Counts → Tried
+attempt p routes r n = record { plan = without-route p routes r; counts = n }
+
+-- `eliminate_routes`
+unfoldable pub eliminate-routes : Problem → Plan → Plan
+eliminate-routes p plan = reduce (attempt p) plan .plan

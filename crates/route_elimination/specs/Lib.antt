@@ -1,0 +1,3 @@
+-- Route elimination. A file uses only files above it in this list.
+-- the attempt to move each stop of a route, and the search
+pub mod Eliminate
