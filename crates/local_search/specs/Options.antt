@@ -42,3 +42,7 @@ pub each-bind : {A B : Type 0} (P : A → Type 0) (Q : B → Type 0) (o : Option
 unfolding bind
 each-bind P Q none f step h = tt
 each-bind P Q (some a) f step h = step a h
+
+pub each-both : {A : Type 0} (P Q : A → Type 0) (o : Option A) → Each P o → Each Q o → Each (λ a. P a × Q a) o
+each-both P Q none h k = tt
+each-both P Q (some a) h k = (h, k)

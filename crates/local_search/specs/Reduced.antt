@@ -62,6 +62,16 @@ head-of (all-cons p a) = p
 tail-of : {A : Type 0} {P : A → Type 0} {x : A} {xs : List A} → All P (x ∷ xs) → All P xs
 tail-of (all-cons p a) = a
 
+-- what each attempt at a route of the plan has, where it is accepted, the round has
+pub round-has : (attempt : Attempt) (P : Plan → Type 0) (routes : Plan) → ((r : ℕ) (n : Counts) → r < length routes → Each P (attempt routes r n .plan))
+    → (n : Counts) → Each P (try-all attempt routes n .plan)
+round-has attempt P routes each n =
+    try-rule attempt (λ rs n. All (λ r. r < length routes) rs) (λ t. Each P (t .plan)) routes
+    (λ n _. tt)
+    (λ r rs n i _. tail-of i)
+    (λ r rs n x i e. subst (Each P) e (each r n (head-of i)))
+    (order (lengths-of routes)) n (order-inside routes)
+
 -- m bounds the steps of one attempt, and G is what the routes given have and every route that an attempt makes
 module _ (attempt : Attempt) (m : ℕ) (G : List ℕ → Type 0)
     (better : (routes : Plan) (r : ℕ) (n : Counts) → r < length routes → All G routes → Each (Better G routes) (attempt routes r n .plan))
@@ -83,12 +93,7 @@ module _ (attempt : Attempt) (m : ℕ) (G : List ℕ → Type 0)
       O t = Bounded b (t .counts)
 
   try-better : (routes : Plan) (n : Counts) → All G routes → Each (Better G routes) (try-all attempt routes n .plan)
-  try-better routes n g =
-      try-rule attempt (λ rs n. All (λ r. r < length routes) rs) (λ t. Each (Better G routes) (t .plan)) routes
-      (λ n _. tt)
-      (λ r rs n i _. tail-of i)
-      (λ r rs n x i e. subst (Each (Better G routes)) e (better routes r n (head-of i) g))
-      (order (lengths-of routes)) n (order-inside routes)
+  try-better routes n g = round-has attempt (Better G routes) routes (λ r n r-in. better routes r n r-in g) n
 
   -- ---- the rounds
 

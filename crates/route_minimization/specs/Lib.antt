@@ -9,3 +9,13 @@ pub mod Eject
 pub mod Perturb
 -- the attempt to empty a route, and the search
 pub mod Minimize
+-- what the searches find lies in the plan and is feasible
+pub mod Found
+-- what a move changes, and how much a perturbation draws
+pub mod Moves
+-- every way that a turn can go, and a rule of proof for the attempt
+pub mod Turns
+-- what an attempt and the search keep
+pub mod Minimized
+-- the cost falls
+pub mod Falls

@@ -1,0 +1,158 @@
+-- What the searches of the pool find lies in the plan, and the route that it makes is feasible. Assumes nothing.
+use Prim.Native.Nat.{ℕ, zero, suc, _+_, _-_, _≤_, _<_}
+use mathlib.Core.Path.{_≡_, refl, sym, ap, _∙_}
+use mathlib.Core.Bool.{Bool, true, false, cond, not, _&&_, _||_}
+use mathlib.Core.List.{List, [], _∷_, _++_}
+use mathlib.Core.Option.{Option, none, some}
+use native.Mathlib.Nat.{le-refl}
+use native.Mathlib.Omega.{arith}
+use borrow.Author.Tests.{eqb-true, eqb-false}
+use lib.ListN.{length, getD, take, drop}
+use lib.Seq.{drop-cons, drop-drop}
+use lib.Dec.{eqb}
+use Rattle.laws.specs.Edits.{insert-at}
+use Rattle.laws.specs.Counts.{one-if, count, count-append, count-parts, count-insert-at}
+use Rattle.laws.specs.Loops.{loop, cond-rule, loop-rule}
+use Rattle.models.specs.Problem.{Problem, depot}
+use Rattle.plan.specs.Plan.{Plan, route, non-empty}
+use Rattle.local_search.specs.Options.{Each, each-or-else}
+use Rattle.local_search.specs.Route.{insertion-cost, Insertion}
+use Rattle.local_search.specs.Feasible.{constrained, has-room, feasible}
+use Rattle.local_search.specs.RouteLaws.{both-right}
+use Rattle.route_minimization.specs.Quick.{may-fit, Times, times}
+use Rattle.route_minimization.specs.Cheapest.{may-go-in, cheaper, try-position, try-positions, try-route, cheapest}
+use Rattle.route_minimization.specs.Eject.{kept, ejected, failure-sum, Ejection, fails-more, outranks, try-in-kept, try-kept, try-out, try-one, try-two, eject-one, eject-two, eject, into, gone}
+
+may-go-in-feasible : (p : Problem) (r : List ℕ) (t : Times) (pos c : ℕ) → may-go-in p r t pos c ≡ true → feasible p (insert-at pos c r) ≡ true
+unfolding may-go-in
+may-go-in-feasible p r t pos c h = both-right (not (constrained p) || may-fit (p .places) (p .roads) (depot p) r (t .departures) (t .latest) pos c) (feasible p (insert-at pos c r)) h
+
+-- a route with a stop put in is not empty
+pub insert-non-empty : (pos c : ℕ) (r : List ℕ) → non-empty (insert-at pos c r) ≡ true
+unfolding insert-at non-empty
+insert-non-empty zero c r = refl
+insert-non-empty (suc pos) c [] = refl
+insert-non-empty (suc pos) c (x ∷ r) = refl
+
+-- ---- the cheapest insertion
+
+pub record Inserts (p : Problem) (routes : Plan) (c : ℕ) (x : Insertion) : Type 0 where
+  pub there : x .route < length routes
+  pub within : x .pos ≤ length (route (x .route) routes)
+  pub feasible-with : feasible p (insert-at (x .pos) c (route (x .route) routes)) ≡ true
+
+module _ (p : Problem) (routes : Plan) (c : ℕ) where
+  abbrev Best : Option Insertion → Type 0
+  Best = Each (Inserts p routes c)
+
+  positions-found : (k : ℕ) → k < length routes → (o : Option Times) (best : Option Insertion) → Best best → Best (try-positions p c k (route k routes) o best)
+  unfolding try-positions try-position
+  positions-found k k-in none best h = h
+  positions-found k k-in (some t) best h =
+      let r = route k routes in
+      loop-rule (λ _. Best) (suc (length r)) (try-position p c k r t) (λ pos best pos-in h.
+      cond-rule Best (cheaper (insertion-cost (p .roads) (depot p) r pos c) best)
+      (λ _. cond-rule Best (may-go-in p r t pos c)
+      (λ e. record { there = k-in; within = omega arith; feasible-with = may-go-in-feasible p r t pos c e })
+      (λ _. h))
+      (λ _. h)) h
+
+  pub cheapest-found : Each (Inserts p routes c) (cheapest p routes c)
+  unfolding cheapest try-route
+  cheapest-found =
+      loop-rule (λ _. Best) (length routes) (λ k. try-route p c k (route k routes)) (λ k best k-in h.
+      cond-rule Best (has-room p (route k routes) c) (λ _. positions-found k k-in (times p (route k routes)) best h) (λ _. h)) tt
+
+-- ---- the ejection
+
+-- the stops that stay and those that leave are those of the route
+pub kept-count : (x i j : ℕ) (r : List ℕ) → i ≤ j → j < length r → count x (kept i j r) + count x (ejected i j r) ≡ count x r
+unfolding kept ejected count
+kept-count x i j r h g = go (eqb i j) refl
+  where
+    -- front, what lies between, and the end
+    parts : count x (kept i j r) ≡ count x (take i r) + (count x (take (j - suc i) (drop (suc i) r)) + count x (drop (suc j) r))
+    parts =
+        count-append x (take i r) (take (j - suc i) (drop (suc i) r) ++ drop (suc j) r)
+        ∙ ap (λ (n : ℕ). count x (take i r) + n) (count-append x (take (j - suc i) (drop (suc i) r)) (drop (suc j) r))
+
+    at-first : count x (drop i r) ≡ one-if (eqb x (getD r i 0)) + count x (drop (suc i) r)
+    at-first = ap (count x) (drop-cons r i 0 (omega arith))
+
+    nothing : i ≡ j → j - suc i ≡ 0
+    nothing e = omega arith
+
+    go : (t : Bool) → eqb i j ≡ t → count x (kept i j r) + count x (getD r i 0 ∷ cond t [] (getD r j 0 ∷ [])) ≡ count x r
+    go true e =
+        let same : i ≡ j = eqb-true i j e in
+        let none-between : count x (take (j - suc i) (drop (suc i) r)) ≡ 0 = ap (λ (k : ℕ). count x (take k (drop (suc i) r))) (nothing same) in
+        omega (arith, parts, none-between, count-parts x i r, at-first, ap (λ (k : ℕ). count x (drop (suc k) r)) same)
+    go false e =
+        let apart : suc i ≤ j = strict (eqb-false i j e) in
+        let there : suc i + (j - suc i) ≡ j = omega arith in
+        let rest : count x (drop (j - suc i) (drop (suc i) r)) ≡ count x (drop j r) = ap (count x) (drop-drop (j - suc i) (suc i) r) ∙ ap (λ (k : ℕ). count x (drop k r)) there in
+        let at-second : count x (drop j r) ≡ one-if (eqb x (getD r j 0)) + count x (drop (suc j) r) = ap (count x) (drop-cons r j 0 g) in
+        omega (arith, parts, count-parts x i r, at-first, count-parts x (j - suc i) (drop (suc i) r), rest, at-second)
+      where
+        strict : (i ≡ j → ⊥) → suc i ≤ j
+        strict n = omega arith
+
+pub record Ejects (p : Problem) (routes : Plan) (c : ℕ) (e : Ejection) : Type 0 where
+  pub there : e .route < length routes
+  pub in-order : e .first ≤ e .second
+  pub within : e .second < length (route (e .route) routes)
+  pub feasible-with : feasible p (into routes c e) ≡ true
+
+-- the route made and the stops ejected are the popped stop and the route's own
+pub ejects-count : (p : Problem) (routes : Plan) (c : ℕ) (e : Ejection) → Ejects p routes c e → (x : ℕ)
+    → count x (into routes c e) + count x (gone routes e) ≡ count x (c ∷ route (e .route) routes)
+unfolding count
+ejects-count p routes c e h x =
+    let r = route (e .route) routes in
+    omega (arith, count-insert-at x (e .pos) c (kept (e .first) (e .second) r), kept-count x (e .first) (e .second) r (h .in-order) (h .within))
+
+module _ (p : Problem) (routes : Plan) (c : ℕ) (failures : List ℕ) where
+  abbrev Out : Option Ejection → Type 0
+  Out = Each (Ejects p routes c)
+
+  module _ (k : ℕ) (k-in : k < length routes) where
+    kept-found : (n i j : ℕ) → i ≤ j → j < length (route k routes) → (o : Option Times) (best : Option Ejection) → Out best
+        → Out (try-kept p c n k i j (kept i j (route k routes)) o best)
+    unfolding try-kept try-in-kept
+    kept-found n i j h g none best b = b
+    kept-found n i j h g (some t) best b =
+        let left = kept i j (route k routes) in
+        loop-rule (λ _. Out) (suc (length left)) (try-in-kept p c n k i j left t) (λ pos best _ b.
+        cond-rule Out (outranks n (insertion-cost (p .roads) (depot p) left pos c) best)
+        (λ _. cond-rule Out (may-go-in p left t pos c)
+        (λ e. record { there = k-in; in-order = h; within = g; feasible-with = may-go-in-feasible p left t pos c e })
+        (λ _. b))
+        (λ _. b)) b
+
+    out-found : (i j : ℕ) → i ≤ j → j < length (route k routes) → (best : Option Ejection) → Out best → Out (try-out p c failures k (route k routes) i j best)
+    unfolding try-out
+    out-found i j h g best b =
+        let r = route k routes in
+        let n = failure-sum failures r i j in
+        cond-rule Out (fails-more n best) (λ _. b)
+        (λ _. cond-rule Out (has-room p (kept i j r) c) (λ _. kept-found n i j h g (times p (kept i j r)) best b) (λ _. b))
+
+  one-found : Out (eject-one p routes c failures)
+  unfolding eject-one try-one
+  one-found =
+      loop-rule (λ _. Out) (length routes) (λ k. try-one p c failures k (route k routes)) (λ k best k-in b.
+      loop-rule (λ _. Out) (length (route k routes)) (λ i. try-out p c failures k (route k routes) i i)
+      (λ i best i-in b. out-found k k-in i i (le-refl i) i-in best b) b) tt
+
+  two-found : Out (eject-two p routes c failures)
+  unfolding eject-two try-two
+  two-found =
+      loop-rule (λ _. Out) (length routes) (λ k. try-two p c failures k (route k routes)) (λ k best k-in b.
+      let r = route k routes in
+      loop-rule (λ _. Out) (length r) (λ i. loop (length r - suc i) (λ d. try-out p c failures k r i (suc i + d))) (λ i best i-in b.
+      loop-rule (λ _. Out) (length r - suc i) (λ d. try-out p c failures k r i (suc i + d))
+      (λ d best d-in b. out-found k k-in i (suc i + d) (omega arith) (omega arith) best b) b) b) tt
+
+  pub eject-found : Each (Ejects p routes c) (eject p routes c failures)
+  unfolding eject
+  eject-found = each-or-else (Ejects p routes c) (eject-one p routes c failures) (eject-two p routes c failures) one-found two-found
