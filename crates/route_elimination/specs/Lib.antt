@@ -1,3 +1,5 @@
 -- Route elimination. A file uses only files above it in this list.
 -- the attempt to move each stop of a route, and the search
 pub mod Eliminate
+-- what an attempt and the search keep
+pub mod Eliminated
