@@ -13,3 +13,5 @@ pub mod RouteLaws
 pub mod RoundRules
 -- what an accepted attempt keeps, the rounds keep
 pub mod Reduced
+-- every definition, opened for theorems by computation
+pub mod Opened

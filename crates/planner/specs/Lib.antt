@@ -5,3 +5,7 @@ pub mod Table
 pub mod Calls
 -- lists of calls, and the claim about them
 pub mod Run
+-- every definition, opened for theorems by computation
+pub mod Opened
+-- the twelve cases
+pub mod Cases

@@ -3,3 +3,5 @@
 pub mod Eliminate
 -- what an attempt and the search keep
 pub mod Eliminated
+-- every definition, opened for theorems by computation
+pub mod Opened

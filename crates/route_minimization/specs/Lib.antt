@@ -19,3 +19,5 @@ pub mod Turns
 pub mod Minimized
 -- the cost falls
 pub mod Falls
+-- every definition, opened for theorems by computation
+pub mod Opened
