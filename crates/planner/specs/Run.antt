@@ -81,10 +81,10 @@ pub data Along (P : Slices → Call → Reply → Type 0) : Slices → List Call
   along-cons : {s : Slices} {c : Call} {cs : List Call} {r : Reply} {rs : List Reply} → P s c r → Along P (r .slices) cs rs → Along P s (c ∷ cs) (r ∷ rs)
 
 -- "Computed cost is the pool's cost over the non-empty routes in plan order.": where a minimise call leaves fewer of them, it is lower
-pub data Cheaper (p : Problem) (s : Slices) : Call → Reply → Type 0 where
-  of-minimise : {given : Allowance} {w : Work} {r : Reply}
-      → (length (routes-in (r .slices)) < length (routes-in s) → lt (cost p (routes-in (r .slices))) (cost p (routes-in s)) ≡ true) → Cheaper p s (minimise given w) r
-  of-eliminate : {w : Work} {r : Reply} → Cheaper p s (eliminate w) r
+abbrev pub Cheaper : Problem → Slices → Call → Reply → Type 0
+Cheaper p s (minimise given w) r =
+    length (routes-in (r .slices)) < length (routes-in s) → lt (cost p (routes-in (r .slices))) (cost p (routes-in s)) ≡ true
+Cheaper p s (eliminate w) r = Unit
 
 -- the slices after a call, against the first
 pub record Kept (p : Problem) (first s : Slices) : Type 0 where

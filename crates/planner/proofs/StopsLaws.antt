@@ -1,0 +1,127 @@
+-- Row 6: stops pass exactly if each occurs once and is a place other than the depot. So what passes does not depend on the order of the stops.
+-- Assumes nothing.
+use Prim.Native.Nat.{ℕ, zero, suc, _+_, _≤_, _<_}
+use mathlib.Core.Path.{_≡_, refl, sym, ap, subst, _∙_}
+use mathlib.Core.Bool.{Bool, true, false, not, _&&_, _||_, true≢false, false≢true}
+use mathlib.Core.List.{List, [], _∷_, _++_}
+use native.Mathlib.Nat.{le-refl}
+use native.Mathlib.Omega.{arith}
+use borrow.Author.Tests.{eqb-true, eqb-false, eq-eqb}
+use lib.ListN.{length, getD, take, drop}
+use lib.Seq.{take-suc, take-all, drop-cons}
+use lib.Dec.{eqb, ltb}
+use Rattle.laws.specs.Counts.{one-if, count, count-append, count-parts}
+use Rattle.laws.specs.Searches.{any, every}
+use Rattle.models.specs.Problem.{Problem, depot}
+use Rattle.local_search.specs.RouteLaws.{both-left, both-right}
+use Rattle.planner.specs.Table.{stop-passes, stops-pass}
+
+pub both : {a b : Bool} → a ≡ true → b ≡ true → (a && b) ≡ true
+both {a} {b} e f = rw (e, f)
+
+pub not-true : (b : Bool) → not b ≡ true → b ≡ false
+not-true true e = absurd (false≢true e)
+not-true false e = refl
+
+-- ---- `every`, number by number
+
+every-each : (t : ℕ → Bool) (m k : ℕ) → every t m k ≡ true → (j : ℕ) → k ≤ j → j < k + m → t j ≡ true
+unfolding every
+every-each t zero k h j a b = absurd (omega arith)
+every-each t (suc m) k h j a b = go (eqb k j) refl (λ c d. every-each t m (suc k) (both-right (t k) (every t m (suc k)) h) j c d)
+  where
+    go : (u : Bool) → eqb k j ≡ u → (suc k ≤ j → j < suc k + m → t j ≡ true) → t j ≡ true
+    go true e rest = rw (← eqb-true k j e) (both-left (t k) (every t m (suc k)) h)
+    go false e rest = rest (further (eqb-false k j e)) (omega arith)
+      where
+        further : (k ≡ j → ⊥) → suc k ≤ j
+        further n = omega arith
+
+every-all : (t : ℕ → Bool) (m k : ℕ) → ((j : ℕ) → k ≤ j → j < k + m → t j ≡ true) → every t m k ≡ true
+unfolding every
+every-all t zero k f = refl
+every-all t (suc m) k f = both (f k (le-refl k) (omega arith)) (every-all t m (suc k) (λ j a b. f j (omega arith) (omega arith)))
+
+-- ---- not among the stops, and counted 0 times
+
+absent-count : (c : ℕ) (xs : List ℕ) → any (eqb c) xs ≡ false → count c xs ≡ 0
+unfolding any count one-if
+absent-count c [] e = refl
+absent-count c (x ∷ xs) e = go (eqb c x) e (λ f. absent-count c xs f)
+  where
+    go : (b : Bool) → (b || any (eqb c) xs) ≡ false → (any (eqb c) xs ≡ false → count c xs ≡ 0) → one-if b + count c xs ≡ 0
+    go true f rest = absurd (true≢false f)
+    go false f rest = omega (arith, rest f)
+
+count-absent : (c : ℕ) (xs : List ℕ) → count c xs ≡ 0 → any (eqb c) xs ≡ false
+unfolding any count one-if
+count-absent c [] e = refl
+count-absent c (x ∷ xs) e = go (eqb c x) e (λ f. count-absent c xs f)
+  where
+    go : (b : Bool) → one-if b + count c xs ≡ 0 → (count c xs ≡ 0 → any (eqb c) xs ≡ false) → (b || any (eqb c) xs) ≡ false
+    go true f rest = absurd (omega arith)
+    go false f rest = rest (omega arith)
+
+-- ---- stops that pass
+
+abbrev is-stop : Problem → ℕ → Bool
+is-stop p c = ltb c (p .roads .size) && not (eqb c (depot p))
+
+pub record Distinct (p : Problem) (stops : List ℕ) : Type 0 where
+  pub once : (c : ℕ) → count c stops ≤ 1
+  pub good : (c : ℕ) → 0 < count c stops → is-stop p c ≡ true
+
+-- by counts alone
+pub distinct-same : (p : Problem) (xs ys : List ℕ) → ((c : ℕ) → count c xs ≡ count c ys) → Distinct p ys → Distinct p xs
+distinct-same p xs ys e d = record { once = λ c. omega (arith, e c, d .once c); good = λ c h. d .good c (omega (arith, e c)) }
+
+module _ (p : Problem) where
+  -- a stop that passes after those before it
+  distinct-more : (xs : List ℕ) (x : ℕ) → Distinct p xs → stop-passes p xs x ≡ true → Distinct p (xs ++ x ∷ [])
+  unfolding stop-passes count one-if
+  distinct-more xs x d h =
+      record { once = λ c. once c (eqb c x) refl; good = λ c g. good c (eqb c x) refl g }
+    where
+      place : Bool
+      place = ltb x (p .roads .size)
+
+      stop : is-stop p x ≡ true
+      stop = both (both-left place _ h) (both-left (not (eqb x (depot p))) _ (both-right place _ h))
+
+      new : any (eqb x) xs ≡ false
+      new = not-true (any (eqb x) xs) (both-right (not (eqb x (depot p))) (not (any (eqb x) xs)) (both-right place _ h))
+
+      counted : (c : ℕ) (b : Bool) → eqb c x ≡ b → count c (xs ++ x ∷ []) ≡ count c xs + (one-if b + 0)
+      counted c b e = count-append c xs (x ∷ []) ∙ ap (λ (t : Bool). count c xs + (one-if t + 0)) e
+
+      once : (c : ℕ) (b : Bool) → eqb c x ≡ b → count c (xs ++ x ∷ []) ≤ 1
+      once c true e = omega (arith, counted c true e, absent-count c xs (rw (eqb-true c x e) new))
+      once c false e = omega (arith, counted c false e, d .once c)
+
+      good : (c : ℕ) (b : Bool) → eqb c x ≡ b → 0 < count c (xs ++ x ∷ []) → is-stop p c ≡ true
+      good c true e g = rw (eqb-true c x e) stop
+      good c false e g = d .good c (omega (arith, counted c false e))
+
+  module _ (stops : List ℕ) where
+    distinct-front : stops-pass p stops ≡ true → (i : ℕ) → i ≤ length stops → Distinct p (take i stops)
+    unfolding stops-pass count
+    distinct-front h zero l = record { once = λ c. omega arith; good = λ c g. absurd (omega arith) }
+    distinct-front h (suc i) l =
+        rw (take-suc stops i 0 (omega arith)) (distinct-more (take i stops) (getD stops i 0) (distinct-front h i (omega arith))
+        (every-each (λ k. stop-passes p (take k stops) (getD stops k 0)) (length stops) 0 h i (omega arith) (omega arith)))
+
+    pub stops-distinct : stops-pass p stops ≡ true → Distinct p stops
+    stops-distinct h = rw (take-all (length stops) stops (le-refl (length stops))) at (distinct-front h (length stops) (le-refl (length stops)))
+
+    pub distinct-stops : Distinct p stops → stops-pass p stops ≡ true
+    unfolding stops-pass stop-passes count one-if
+    distinct-stops d = every-all (λ k. stop-passes p (take k stops) (getD stops k 0)) (length stops) 0 (λ j _ l. passing j (omega arith))
+      where
+        passing : (j : ℕ) → j < length stops → stop-passes p (take j stops) (getD stops j 0) ≡ true
+        passing j l =
+            let c = getD stops j 0 in
+            let here : count c (drop j stops) ≡ 1 + count c (drop (suc j) stops) = ap (count c) (drop-cons stops j 0 l) ∙ ap (λ (b : Bool). one-if b + count c (drop (suc j) stops)) (eq-eqb c c refl) in
+            let parts = count-parts c j stops in
+            let g = d .good c (omega (arith, d .once c)) in
+            both (both-left (ltb c (p .roads .size)) (not (eqb c (depot p))) g)
+            (both (both-right (ltb c (p .roads .size)) (not (eqb c (depot p))) g) (ap not (count-absent c (take j stops) (omega (arith, d .once c)))))
