@@ -15,8 +15,10 @@ use Rattle.floats.specs.Binary64.{_⊕_, _⊗_, 0f, +∞, max}
 use Rattle.floats.specs.Order.{le-of-lt-true}
 use Rattle.floats.specs.Upto.{Upto, upto-add, upto-sub, upto-mul, upto-more, upto-as, upto-zero, upto-max, upto-not-nan}
 use Rattle.floats.specs.Difference.{upto-late}
+use Rattle.floats.specs.Whole.{nat-upto}
 use Rattle.floats.specs.Inputs.{Amount}
-use Rattle.laws.specs.Loops.{cond-rule}
+use Rattle.laws.specs.All.{All, all-of}
+use Rattle.laws.specs.Loops.{loop, cond-rule, loop-rule, foldl-rule}
 use Rattle.laws.specs.Walks.{walk-count-rule}
 use Rattle.laws.specs.Matrix.{in-matrix}
 use Rattle.models.specs.declared.customer.TimeWindow.{TimeWindow}
@@ -30,13 +32,13 @@ use Rattle.models.specs.declared.vehicle.Rest.the-variants.{None as NoRest, Bre
 use Rattle.models.specs.declared.vehicle.VehicleBreak.{VehicleBreak}
 use Rattle.models.specs.declared.limits.RouteLimits.{RouteLimits}
 use Rattle.models.specs.TimeWindow.{waiting-time, is-violated, lateness}
-use Rattle.models.specs.Customer.{Customers, customer-at, windowed, penalised}
+use Rattle.models.specs.Customer.{Customers, window-at, penalty-at, customer-at, windowed, penalised}
 use Rattle.models.specs.Vehicle.{vehicle-break-new}
 use Rattle.models.specs.RouteLimits.{allow}
-use Rattle.models.specs.Problem.{DistanceMatrix, Problem, Stops}
+use Rattle.models.specs.Problem.{DistanceMatrix, Problem, Fit, Stops}
 use Rattle.models.specs.Valid.{valid}
 use Rattle.models.proofs.ValidLaws.{Floats, valid-square, valid-service, valid-distances, valid-times, valid-window, valid-penalty}
-use Rattle.distance.specs.Matrix.{get, travel-time}
+use Rattle.distance.specs.Matrix.{get, travel-time, largest}
 use Rattle.evaluation.specs.declared.eval.RouteEval.{RouteEval}
 use Rattle.evaluation.specs.declared.eval.Eval.{Eval}
 use Rattle.evaluation.specs.declared.eval.Eval.the-variants.{Infeasible, Feasible}
@@ -56,6 +58,8 @@ use Rattle.evaluation.specs.declared.schedule.Ridden.{Ridden}
 use Rattle.evaluation.specs.declared.schedule.Ridden.the-variants.{Stuck as RideStuck, At as RideAt}
 use Rattle.evaluation.specs.Schedule.{START, in-time, too-late, at-window, serve-at, pausing, serve, served-from, sooner, earlier, lives, clocked, push, ended, finish-after, finish-before, finish, set-out as ride-out, pushed, ride, onward as ride-onward, ride-all, ride-home, homeward as ride-homeward, schedule}
 use Rattle.evaluation.specs.Eval.{priced-distance, limited, set-out, walked, drive, onward, drive-all, home, homeward, eval-with, route-eval, worth, effective-cost}
+use Rattle.evaluation.specs.Check.{has-soft-windows}
+use Rattle.evaluation.specs.Bound.{with-window, with-penalty, later-window, dearer-penalty, latest-window, dearest-penalty, slowest, lateness-bound}
 use Rattle.evaluation.proofs.StopLaws.{stops-all}
 
 -- ---- amounts
@@ -351,3 +355,52 @@ module _ (cs : Customers) (m : DistanceMatrix) (a : Amounts cs m) (depot : ℕ) 
       go (Feasible e) g =
           let d = upto-as 80 (length route + 1) (g .distance) (omega arith) in
           upto-not-nan (upto-add d (g .cost) (lit≤ tt) (omega (arith, s .few)))
+
+-- ---- the largest distance, and the bound on the cost of lateness
+
+all-amounts : (xs : List Float) → ((k : ℕ) → k < length xs → Amount (getD xs k nan)) → All (Upto 40 1) xs
+all-amounts xs f = all-of xs nan (λ k h. unit (f k h))
+
+pub largest-bounded : (xs : List Float) → ((k : ℕ) → k < length xs → Amount (getD xs k nan)) → Upto 40 1 (largest xs)
+unfolding largest
+largest-bounded xs f = foldl-rule (Upto 40 1) (Upto 40 1) max (λ t x q p. upto-max p q) (all-amounts xs f) (upto-zero 40 1)
+
+with-window-bounded : (most : Float) (w : Window) → Upto 40 1 most → Window-amounts w → Upto 40 1 (with-window most w)
+with-window-bounded most NoWindow u a = u
+with-window-bounded most (WindowIs w) u (r, d) = upto-max u (upto-max (unit r) (unit d))
+
+with-penalty-bounded : (most : Float) (q : Penalty) → Upto 40 1 most → Penalty-amount q → Upto 40 1 (with-penalty most q)
+with-penalty-bounded most NoPenalty u a = u
+with-penalty-bounded most (PenaltyOf each) u a = upto-max u (unit a)
+
+module _ (cs : Customers) (m : DistanceMatrix) (a : Amounts cs m) (f : Fit cs m) where
+  place-in : (c : ℕ) → c < length (cs .flags) → c < m .size
+  place-in c h = subst (λ (k : ℕ). c < k) (f .sized .flag-cells) h
+
+  window-bounded : Upto 40 1 (latest-window (cs .ready) (cs .due) (cs .flags))
+  unfolding latest-window later-window
+  window-bounded =
+      loop-rule (λ _ x. Upto 40 1 x) (length (cs .flags)) (later-window (cs .ready) (cs .due) (cs .flags))
+      (λ c x h u. with-window-bounded x (window-at (cs .ready) (cs .due) (cs .flags) c) u (customer cs m a c (place-in c h) .window)) (upto-zero 40 1)
+
+  penalty-bounded : Upto 40 1 (dearest-penalty (cs .penalty) (cs .flags))
+  unfolding dearest-penalty dearer-penalty
+  penalty-bounded =
+      loop-rule (λ _ x. Upto 40 1 x) (length (cs .flags)) (dearer-penalty (cs .penalty) (cs .flags))
+      (λ c x h u. with-penalty-bounded x (penalty-at (cs .penalty) (cs .flags) c) u (customer cs m a c (place-in c h) .penalty)) (upto-zero 40 1)
+
+  slowest-bounded : Upto 40 1 (slowest m)
+  unfolding slowest
+  slowest-bounded =
+      loop-rule (λ _ x. Upto 40 1 x) (m .size) (λ i row. loop (m .size) (λ j most. max most (travel-time m i j)) row)
+      (λ i x h u. loop-rule (λ _ y. Upto 40 1 y) (m .size) (λ j most. max most (travel-time m i j)) (λ j y k v. upto-max v (unit (a .travel i j h k))) u) (upto-zero 40 1)
+
+  -- 256 × 513 × 2 ^ 80 at most
+  pub lateness-bound-bounded : Upto 80 131328 (lateness-bound cs m)
+  unfolding lateness-bound
+  lateness-bound-bounded =
+      let count = upto-more 256 (nat-upto (m .size) (omega (arith, f .square .few))) (f .square .few) in
+      let service = largest-bounded (cs .service) (λ k h. a .service k (subst (λ (i : ℕ). k < i) (f .sized .service-cells) h)) in
+      let way = upto-add slowest-bounded service (lit≤ tt) (lit≤ tt) in
+      let longest = upto-add window-bounded (upto-mul count way (lit≤ tt) (lit≤ tt)) (lit≤ tt) (lit≤ tt) in
+      cond-rule (Upto 80 131328) (has-soft-windows (cs .flags)) (λ _. upto-mul (upto-mul count penalty-bounded (lit≤ tt) (lit≤ tt)) longest (lit≤ tt) (lit≤ tt)) (λ _. upto-zero 80 131328)

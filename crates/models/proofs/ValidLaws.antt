@@ -174,9 +174,10 @@ module _ (p : Problem) (v : valid p ≡ true) where
     valid-window c h w =
         let a = is-amount (getD (p .places .ready) c nan) in
         let b = is-amount (getD (p .places .due) c nan) in
-        let e : (a && b) ≡ true = sym (ap (λ (t : Bool). cond t (a && b) true) w) ∙ place c h .0 in
-        (amount-is (getD (p .places .ready) c nan) (f .ready .each c (rw (valid-sized .ready-cells) h)) (and-first a b e),
-        amount-is (getD (p .places .due) c nan) (f .due .each c (rw (valid-sized .due-cells) h)) (and-second a b e))
+        let e : (a && b) ≡ true = sym (ap (λ (t : Bool). cond t (a && b) true) w) ∙ place c h .0 in (
+          amount-is (getD (p .places .ready) c nan) (f .ready .each c (rw (valid-sized .ready-cells) h)) (and-first a b e),
+          amount-is (getD (p .places .due) c nan) (f .due .each c (rw (valid-sized .due-cells) h)) (and-second a b e),
+        )
 
     pub valid-penalty : (c : ℕ) → c < p .roads .size → penalised (getD (p .places .flags) c 0) ≡ true → Amount (getD (p .places .penalty) c nan)
     valid-penalty c h w =
