@@ -9,9 +9,3 @@ pub mod EvalLaws
 pub mod CheckLaws
 -- specs/Bound, as the code of `bound` meets it
 pub mod BoundLaws
--- the evaluation answers where the check says yes; where no check is needed every route passes it
-pub mod Agreement
--- document 01's cases 1 to 3 and 5 to 8
-pub mod Cases
--- an evaluation's numbers are finite, and their bounds
-pub mod Bounds
