@@ -1,15 +1,15 @@
 -- `route_eval` answers exactly where `route_feasible` says yes, and where the check is not needed every route passes it.
 -- The check's walk is what remains of the evaluation's when lateness is forgotten: so at one stop, over the stops, and at home.
 -- Assumes nothing.
-use Prim.Native.Nat.{ℕ, _<_}
+use Prim.Native.Nat.{ℕ}
 use mathlib.Core.Path.{_≡_, refl, sym, ap, _∙_}
 use mathlib.Core.Bool.{Bool, true, false, true≢false, false≢true, cond, not, _&&_, _||_}
 use mathlib.Core.List.{List, [], _∷_}
-use lib.ListN.{length, getD}
+use lib.ListN.{getD}
 use lib.Ieee.{Float, nan}
 use Rattle.floats.specs.Binary64.{_⊕_}
-use Rattle.laws.specs.All.{All, all-nil, all-cons, all-get}
-use Rattle.laws.specs.Searches.{any-none}
+use Rattle.laws.specs.All.{All, all-default}
+use Rattle.laws.specs.Searches.{and-first, and-second, any-none}
 use Rattle.laws.specs.Walks.{walk}
 use Rattle.models.specs.declared.customer.TimeWindow.{TimeWindow}
 use Rattle.models.specs.declared.customer.Window.{Window}
@@ -23,10 +23,10 @@ use Rattle.models.specs.declared.vehicle.Rest.{Rest}
 use Rattle.models.specs.declared.vehicle.Rest.the-variants.{None as NoRest, Break}
 use Rattle.models.specs.declared.limits.RouteLimits.{RouteLimits}
 use Rattle.models.specs.TimeWindow.{waiting-time, is-violated, lateness}
-use Rattle.models.specs.Customer.{Customers, Sized, customer-at, windowed}
+use Rattle.models.specs.Customer.{Customers, customer-at, windowed}
 use Rattle.models.specs.Vehicle.{vehicle-break-new}
 use Rattle.models.specs.RouteLimits.{no-limit, no-rest, is-unlimited, within, allow}
-use Rattle.models.specs.Problem.{DistanceMatrix, Stops}
+use Rattle.models.specs.Problem.{DistanceMatrix}
 use Rattle.distance.specs.Matrix.{get, travel-time}
 use Rattle.evaluation.specs.declared.check.Way.{Way}
 use Rattle.evaluation.specs.declared.check.Reached.{Reached}
@@ -46,7 +46,6 @@ use Rattle.evaluation.specs.declared.schedule.Served.the-variants.{Dead, Live}
 use Rattle.evaluation.specs.Schedule.{too-late, in-time, at-window, serve-at, ended, schedule}
 use Rattle.evaluation.specs.Eval.{is-feasible, limited, walked, drive, onward, drive-all, home, homeward, eval-with, route-eval, set-out}
 use Rattle.evaluation.specs.Check.{has-time-windows, route-checks-needed, unless-hard, departure-in, departure, reached, reach, reach-all, home-allowed, feasible-with, route-feasible, onward as way-onward, homeward as way-homeward, set-out as way-out}
-use Rattle.evaluation.proofs.StopLaws.{stops-all}
 
 -- ---- lateness forgotten
 
@@ -134,10 +133,6 @@ both-of true true e = (refl, refl)
 both-of true false e = absurd (true≢false e)
 both-of false b e = absurd (true≢false e)
 
-both-true : (a b : Bool) → (a && b) ≡ true → (a ≡ true) × (b ≡ true)
-both-true true b e = (refl, e)
-both-true false b e = absurd (false≢true e)
-
 unlimited : (l : Limit) (x : Float) → no-limit l ≡ true → within l x ≡ true
 unlimited NoLimit x e = refl
 unlimited (LimitAt most) x e = absurd (false≢true e)
@@ -151,29 +146,28 @@ windowless : (arrival : Float) (c : Customer) → c .«time_window» ≡ NoWindo
 unfolding departure
 windowless arrival c e = ap (departure-in arrival c) e
 
-all-open : (cs : Customers) (m : DistanceMatrix) → All (λ f. windowed f ≡ false) (cs .flags) → length (cs .flags) ≡ m .size
-    → (depot : ℕ) (limits : RouteLimits) → ((d t : Float) → allow limits d t ≡ true) → (route : List ℕ) (w : Way) → All (λ c. c < m .size) route
-    → way-homeward m depot limits (reach-all cs m route w) ≡ true
+all-open : (cs : Customers) (m : DistanceMatrix) → All (λ f. windowed f ≡ false) (cs .flags) → (depot : ℕ) (limits : RouteLimits)
+    → ((d t : Float) → allow limits d t ≡ true) → (route : List ℕ) (w : Way) → way-homeward m depot limits (reach-all cs m route w) ≡ true
 unfolding walk reach home-allowed
-all-open cs m a n depot limits free [] w all-nil = free (w .distance ⊕ get m (w .prev) depot) (w .time ⊕ travel-time m (w .prev) depot)
-all-open cs m a n depot limits free (c ∷ route) w (all-cons h s) =
-    let shut : windowed (getD (cs .flags) c 0) ≡ false = all-get c 0 a (rw n h) in
+all-open cs m a depot limits free [] w = free (w .distance ⊕ get m (w .prev) depot) (w .time ⊕ travel-time m (w .prev) depot)
+all-open cs m a depot limits free (c ∷ route) w =
+    let shut : windowed (getD (cs .flags) c 0) ≡ false = all-default {P = λ f. windowed f ≡ false} c a refl in
     let none : customer-at cs c .«time_window» ≡ NoWindow =
     ap (λ (b : Bool). cond b (WindowIs (record { ready = getD (cs .ready) c nan; due = getD (cs .due) c nan })) NoWindow) shut in
     let at = w .time ⊕ travel-time m (w .prev) c in
     let d = w .distance ⊕ get m (w .prev) c in
     ap (λ (x : Left). way-homeward m depot limits (way-onward (reached d c x) (λ v. reach-all cs m route v))) (windowless at (customer-at cs c) none)
-    ∙ all-open cs m a n depot limits free route (record { time = at ⊕ getD (cs .service) c nan; distance = d; prev = c }) s
+    ∙ all-open cs m a depot limits free route (record { time = at ⊕ getD (cs .service) c nan; distance = d; prev = c })
 
--- "Without either, every sequence is feasible": what the searches rely on when they make no check
-pub unneeded-passes : (cs : Customers) (m : DistanceMatrix) (depot : ℕ) (limits : RouteLimits) (route : List ℕ) → Sized cs (m .size) → Stops (m .size) route
+-- "Without either, every sequence is feasible": what the searches rely on when they make no check. It holds of every list of stops.
+pub unneeded-passes : (cs : Customers) (m : DistanceMatrix) (depot : ℕ) (limits : RouteLimits) (route : List ℕ)
     → route-checks-needed (cs .flags) limits ≡ false → route-feasible cs m depot limits route ≡ true
 unfolding has-time-windows route-feasible
-unneeded-passes cs m depot limits route sized s e =
+unneeded-passes cs m depot limits route e =
     let parts = none-of (has-time-windows (cs .flags)) (not (is-unlimited limits)) e in
     let free = both-of (no-limit (limits .«max_distance»)) (no-limit (limits .«max_duration») && no-rest (limits .rest)) (parts .1) in
-    let rest = both-true (no-limit (limits .«max_duration»)) (no-rest (limits .rest)) (free .1) in
-    ap (feasible-with cs m depot limits route) (unrested (limits .rest) (rest .1))
-    ∙ all-open cs m (any-none windowed (cs .flags) (parts .0)) (sized .flag-cells) depot limits
-    (λ d t. rw (unlimited (limits .«max_distance») d (free .0)) (unlimited (limits .«max_duration») t (rest .0)))
-    route (way-out depot) (stops-all (m .size) route s)
+    let duration = and-first (no-limit (limits .«max_duration»)) (no-rest (limits .rest)) (free .1) in
+    let rest = and-second (no-limit (limits .«max_duration»)) (no-rest (limits .rest)) (free .1) in
+    ap (feasible-with cs m depot limits route) (unrested (limits .rest) rest)
+    ∙ all-open cs m (any-none windowed (cs .flags) (parts .0)) depot limits
+    (λ d t. rw (unlimited (limits .«max_distance») d (free .0)) (unlimited (limits .«max_duration») t duration)) route (way-out depot)
