@@ -11,9 +11,8 @@ use lib.ListN.{length, getD, take, drop}
 use lib.Seq.{take-suc, take-all, drop-cons}
 use lib.Dec.{eqb, ltb}
 use Rattle.laws.specs.Counts.{one-if, count, count-append, count-parts}
-use Rattle.laws.specs.Searches.{any, every}
+use Rattle.laws.specs.Searches.{any, every, and-first, and-second}
 use Rattle.models.specs.Problem.{Problem, depot}
-use Rattle.local_search.specs.RouteLaws.{both-left, both-right}
 use Rattle.planner.specs.Table.{stop-passes, stops-pass}
 
 pub both : {a b : Bool} → a ≡ true → b ≡ true → (a && b) ≡ true
@@ -28,10 +27,10 @@ not-true false e = refl
 every-each : (t : ℕ → Bool) (m k : ℕ) → every t m k ≡ true → (j : ℕ) → k ≤ j → j < k + m → t j ≡ true
 unfolding every
 every-each t zero k h j a b = absurd (omega arith)
-every-each t (suc m) k h j a b = go (eqb k j) refl (λ c d. every-each t m (suc k) (both-right (t k) (every t m (suc k)) h) j c d)
+every-each t (suc m) k h j a b = go (eqb k j) refl (λ c d. every-each t m (suc k) (and-second (t k) (every t m (suc k)) h) j c d)
   where
     go : (u : Bool) → eqb k j ≡ u → (suc k ≤ j → j < suc k + m → t j ≡ true) → t j ≡ true
-    go true e rest = rw (← eqb-true k j e) (both-left (t k) (every t m (suc k)) h)
+    go true e rest = rw (← eqb-true k j e) (and-first (t k) (every t m (suc k)) h)
     go false e rest = rest (further (eqb-false k j e)) (omega arith)
       where
         further : (k ≡ j → ⊥) → suc k ≤ j
@@ -86,10 +85,10 @@ module _ (p : Problem) where
       place = ltb x (p .roads .size)
 
       stop : is-stop p x ≡ true
-      stop = both (both-left place _ h) (both-left (not (eqb x (depot p))) _ (both-right place _ h))
+      stop = both (and-first place _ h) (and-first (not (eqb x (depot p))) _ (and-second place _ h))
 
       new : any (eqb x) xs ≡ false
-      new = not-true (any (eqb x) xs) (both-right (not (eqb x (depot p))) (not (any (eqb x) xs)) (both-right place _ h))
+      new = not-true (any (eqb x) xs) (and-second (not (eqb x (depot p))) (not (any (eqb x) xs)) (and-second place _ h))
 
       counted : (c : ℕ) (b : Bool) → eqb c x ≡ b → count c (xs ++ x ∷ []) ≡ count c xs + (one-if b + 0)
       counted c b e = count-append c xs (x ∷ []) ∙ ap (λ (t : Bool). count c xs + (one-if t + 0)) e
@@ -123,5 +122,5 @@ module _ (p : Problem) where
             let here : count c (drop j stops) ≡ 1 + count c (drop (suc j) stops) = ap (count c) (drop-cons stops j 0 l) ∙ ap (λ (b : Bool). one-if b + count c (drop (suc j) stops)) (eq-eqb c c refl) in
             let parts = count-parts c j stops in
             let g = d .good c (omega (arith, d .once c)) in
-            both (both-left (ltb c (p .roads .size)) (not (eqb c (depot p))) g)
-            (both (both-right (ltb c (p .roads .size)) (not (eqb c (depot p))) g) (ap not (count-absent c (take j stops) (omega (arith, d .once c)))))
+            both (and-first (ltb c (p .roads .size)) (not (eqb c (depot p))) g)
+            (both (and-second (ltb c (p .roads .size)) (not (eqb c (depot p))) g) (ap not (count-absent c (take j stops) (omega (arith, d .once c)))))

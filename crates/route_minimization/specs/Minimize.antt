@@ -5,7 +5,7 @@ use mathlib.Core.Bool.{cond}
 use mathlib.Core.Option.{Option, none, some}
 use lib.ListN.{getD, set, replicate}
 use lib.Dec.{leb}
-use lib.Ieee.{Float, lt}
+use lib.Ieee.{Float, lt, le}
 use Rattle.floats.specs.Binary64.{_⊖_, _⊗_, 1e-12, abs}
 use Rattle.laws.specs.Edits.{erase}
 use Rattle.models.specs.Problem.{Problem}
