@@ -22,4 +22,4 @@ pub mod Falls
 -- every definition, opened for theorems by computation
 pub mod Opened
 -- two plans reduced by ejections, by computation
-pub mod Examples
+pub mod Ejections
