@@ -21,3 +21,5 @@ pub mod Minimized
 pub mod Falls
 -- every definition, opened for theorems by computation
 pub mod Opened
+-- the definitions computed on small plans
+pub mod Examples
