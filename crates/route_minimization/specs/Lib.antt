@@ -23,3 +23,5 @@ pub mod Falls
 pub mod Opened
 -- two plans reduced by ejections, by computation
 pub mod Ejections
+-- the definitions computed on small plans
+pub mod Examples
