@@ -77,7 +77,7 @@ fn reach_tail(
 {
     reach_all(
         way,
-        &route[pos..],
+        &route[pos..], // the stops that c is put in before
         n,
         distances,
         times,

@@ -1,13 +1,26 @@
 -- Searches over a list that end at the first hit. Assumes nothing.
 use Prim.Native.Nat.{ℕ, zero, suc, _+_, _-_, _≤_, _<_}
-use mathlib.Core.Path.{_≡_, refl, sym, ap, _∙_}
-use mathlib.Core.Bool.{Bool, true, false, true≢false, _&&_, _||_}
+use mathlib.Core.Path.{_≡_, refl, sym, ap, subst, _∙_}
+use mathlib.Core.Bool.{Bool, true, false, true≢false, false≢true, _&&_, _||_}
 use mathlib.Core.List.{List, [], _∷_}
+use native.Mathlib.Nat.{le-of-suc-le-suc, not-suc-le-zero, zero-add}
 use native.Mathlib.Numerals.{add-one}
 use native.Mathlib.Omega.{arith}
 use lib.ListN.{length, getD, drop, drop-of-length-le}
 use lib.Seq.{drop-cons}
 use Rattle.laws.specs.All.{All, all-nil, all-cons}
+
+-- ---- both tests of a conjunction
+
+pub and-first : (a b : Bool) → (a && b) ≡ true → a ≡ true
+and-first true b e = refl
+and-first false b e = e
+
+pub and-second : (a b : Bool) → (a && b) ≡ true → b ≡ true
+and-second true b e = e
+and-second false b e = absurd (false≢true e)
+
+-- ---- a hit
 
 -- some element passes the test: `iter().any(f)`
 unfoldable pub any : {A : Type 0} → (A → Bool) → List A → Bool
@@ -38,6 +51,8 @@ any-none f (x ∷ xs) e = go (f x) refl e (λ h. any-none f xs h)
     go true p q rest = absurd (true≢false q)
     go false p q rest = all-cons p (rest q)
 
+-- ---- no fault
+
 -- each of the m numbers from k on passes the test: a loop over k..k + m that ends at the first that fails
 unfoldable pub every : (ℕ → Bool) → ℕ → ℕ → Bool
 every t zero k = true
@@ -62,3 +77,15 @@ module _ (t : ℕ → Bool) (r k : ℕ) where
   every-end h =
       let f : r - k ≡ 0 = omega arith in
       rw f
+
+-- where all pass, each one does
+pub every-holds : (t : ℕ → Bool) (m k i : ℕ) → every t m k ≡ true → i < m → t (k + i) ≡ true
+unfolding every
+every-holds t zero k i e h = absurd (not-suc-le-zero h)
+every-holds t (suc m) k zero e h = let z : k + 0 ≡ k = omega arith in rw z (and-first (t k) (every t m (suc k)) e)
+every-holds t (suc m) k (suc i) e h =
+    let z : k + suc i ≡ suc k + i = omega arith in
+    rw z (every-holds t m (suc k) i (and-second (t k) (every t m (suc k)) e) (le-of-suc-le-suc h))
+
+pub every-at : (t : ℕ → Bool) (m i : ℕ) → every t m 0 ≡ true → i < m → t i ≡ true
+every-at t m i e h = subst (λ (k : ℕ). t k ≡ true) (zero-add i) (every-holds t m 0 i e h)

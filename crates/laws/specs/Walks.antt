@@ -4,6 +4,7 @@
 use Prim.Native.Nat.{ℕ, suc, _+_, _≤_, _<_}
 use mathlib.Core.Path.{_≡_, refl, sym, ap, subst, _∙_}
 use mathlib.Core.List.{List, [], _∷_, _++_}
+use native.Mathlib.Nat.{zero-add}
 use native.Mathlib.Numerals.{add-one}
 use native.Mathlib.Omega.{arith}
 use lib.ListN.{length, getD, take, drop, drop-of-length-le}
@@ -87,3 +88,22 @@ module _ {S R : Type 0} (on : S → R) (next : R → (S → R) → R) (step : S 
         (λ _. subst Q (sym (stays (λ t. walk on next step cs t))) q)
         (λ t g. subst Q (sym (goes t (λ u. walk on next step cs u))) (walk-rule Q C q kept cs t a g))
         (step s c) (kept s c p h)
+
+    -- the same of a property that counts the stops, up to `most` of them
+    count-on : (Q : ℕ → R → Type 0) (C : ℕ → Type 0) (most : ℕ) → ((k : ℕ) → Q k stuck)
+        → ((k : ℕ) (s : S) (c : ℕ) → k < most → C c → Q k (on s) → Q (suc k) (step s c))
+        → (stops : List ℕ) (k : ℕ) (s : S) → All C stops → k + length stops ≤ most → Q k (on s) → Q (k + length stops) (walk on next step stops s)
+    unfolding walk
+    count-on Q C most q kept [] k s a f h = let e : k + 0 ≡ k = omega arith in rw e h
+    count-on Q C most q kept (c ∷ cs) k s (all-cons p a) f h =
+        let e : k + suc (length cs) ≡ suc k + length cs = omega arith in
+        cases (λ r. Q (suc k) r → Q (k + suc (length cs)) (next r (λ t. walk on next step cs t)))
+        (λ _. subst (Q (k + suc (length cs))) (sym (stays (λ t. walk on next step cs t))) (q (k + suc (length cs))))
+        (λ t g. subst (Q (k + suc (length cs))) (sym (goes t (λ u. walk on next step cs u))) (rw e (count-on Q C most q kept cs (suc k) t a (omega arith) g)))
+        (step s c) (kept k s c (omega arith) p h)
+
+    pub walk-count-rule : (Q : ℕ → R → Type 0) (C : ℕ → Type 0) (most : ℕ) → ((k : ℕ) → Q k stuck)
+        → ((k : ℕ) (s : S) (c : ℕ) → k < most → C c → Q k (on s) → Q (suc k) (step s c))
+        → (stops : List ℕ) (s : S) → All C stops → length stops ≤ most → Q 0 (on s) → Q (length stops) (walk on next step stops s)
+    walk-count-rule Q C most q kept stops s a f h =
+        subst (λ (k : ℕ). Q k (walk on next step stops s)) (zero-add (length stops)) (count-on Q C most q kept stops 0 s a (omega arith) h)
