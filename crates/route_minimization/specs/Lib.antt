@@ -1,6 +1,4 @@
 -- Route minimisation with an ejection pool. A file uses only files above it in this list.
--- the quick test: departures, latest arrivals
-pub mod Quick
 -- the cheapest insertion
 pub mod Cheapest
 -- one stop ejected, else two

@@ -1,0 +1,20 @@
+-- `stop_before` meets its contract.
+use borrow.Author.Needs.{needs}
+use Rattle.laws.specs.Picks.{picks}
+use Rattle.quick_test.proofs.stop_before.Tie as tie
+use Rattle.quick_test.proofs.stop_before.Statement.{statement}
+
+returns : tie.Need-returns
+returns c = search picks
+
+sub-stop-at : tie.Need-sub-stop-at
+sub-stop-at c = search needs
+
+stop-at-requires : tie.Need-stop-at-requires
+stop-at-requires c κs = search needs
+
+returns-2 : tie.Need-returns-2
+returns-2 c = search picks
+
+pub stop-before-spec : {M : Type 1} → statement M
+stop-before-spec = tie.close (tie.spec returns sub-stop-at stop-at-requires returns-2)
