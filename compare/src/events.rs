@@ -25,6 +25,7 @@ events! {
     LastRoute "the only route tried",
     #[doc = "minimise: an attempt"]
     StoppedByLimit "attempt stopped by M",
+    LongAttempt "attempt of 65,535 steps",
     StoppedByClock "attempt stopped by the clock",
     EmptiedAtLimit "pool emptied by the M-th step",
     EmptiedAtClock "pool emptied by the K-th step",

@@ -451,7 +451,7 @@ impl<'a> Steps<'a> {
         let mut pops = 0;
         while let Some(stop) = pool.pop() {
             if pops == run.limit {
-                self.events.add(Event::StoppedByLimit);
+                self.events.add(if pops == 65_535 { Event::LongAttempt } else { Event::StoppedByLimit });
                 return None;
             }
             if run.steps == run.clock {
