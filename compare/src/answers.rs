@@ -10,13 +10,32 @@
 //! `-` stands for a limit or break that is not there. A slice's line is its name and its values.
 
 use crate::generate::{case, case_seed, Case};
-use crate::problem::{bits, Call, Plan, Problem, Side};
+use crate::problem::{bits, Answer, Call, Plan, Problem, Side};
 
-/// Prints `count` cases of a seed, with at most `most` places each.
-pub fn print(side: &mut dyn Side, count: u64, seed: u64, most: usize) {
-    for index in 0..count {
-        print_case(side, &case(case_seed(seed, index), most));
+/// Prints the first `count` cases of a seed that have at most `most` places and whose calls take at most `steps` steps.
+pub fn print(side: &mut dyn Side, count: u64, seed: u64, most: usize, steps: u64) {
+    let mut printed = 0;
+    let mut index = 0;
+    while printed < count {
+        let case = case(case_seed(seed, index), most);
+        if longest(side, &case) <= steps {
+            print_case(side, &case);
+            printed += 1;
+        }
+        index += 1;
     }
+}
+
+/// The most steps that a call of a case takes.
+fn longest(side: &mut dyn Side, case: &Case) -> u64 {
+    let mut plan = case.plan.clone();
+    let mut most = 0;
+    for asked in &case.calls {
+        if let Answer::Minimised { steps, .. } = side.call(&case.problem, &mut plan, &asked.call) {
+            most = most.max(steps);
+        }
+    }
+    most
 }
 
 /// Prints one case with a side's answers.

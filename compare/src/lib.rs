@@ -11,6 +11,7 @@ include!(concat!(env!("OUT_DIR"), "/tree.rs"));
 pub mod answers;
 pub mod cases;
 pub mod checks;
+pub mod claim;
 pub mod events;
 pub mod generate;
 pub mod model;

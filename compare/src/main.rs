@@ -4,16 +4,21 @@ use std::process::exit;
 
 use comparison::ORIGINAL;
 
-const USAGE: &str = "compare [COUNT] [SEED]               compares COUNT calls (20000) of SEED (1)
-compare --answers N SEED [PLACES]    prints N cases with the original's answers, of at most PLACES places (8)
-compare --case CASE [PLACES]         prints the case of one seed, with every side's answers";
+const USAGE: &str = "compare [COUNT] [SEED]           compares COUNT calls (20000) of SEED (1)
+compare --case CASE [PLACES]     prints the case of that number with every side's answers
+compare --answers N SEED [PLACES] [STEPS]
+                                 prints N cases with the original's answers, of at most PLACES places (8) each,
+                                 and with at most STEPS steps (100) in a call";
 
 fn main() {
     let arguments: Vec<String> = std::env::args().skip(1).collect();
     let words: Vec<&str> = arguments.iter().map(|word| word.as_str()).collect();
     let status = match words[..] {
-        ["--answers", count, seed] => answers(number(count), number(seed), 8),
-        ["--answers", count, seed, places] => answers(number(count), number(seed), number(places)),
+        ["--answers", count, seed] => answers(number(count), number(seed), 8, 100),
+        ["--answers", count, seed, places] => answers(number(count), number(seed), number(places), 100),
+        ["--answers", count, seed, places, steps] => {
+            answers(number(count), number(seed), number(places), number(steps))
+        }
         ["--case", seed] => one_case(number(seed), 256),
         ["--case", seed, places] => one_case(number(seed), number(places)),
         [] => compare(20_000, 1),
@@ -45,7 +50,7 @@ fn compare(_count: u64, _seed: u64) -> i32 {
 }
 
 #[cfg(not(original))]
-fn answers(_count: u64, _seed: u64, _places: u64) -> i32 {
+fn answers(_count: u64, _seed: u64, _places: u64, _steps: u64) -> i32 {
     missing()
 }
 
@@ -89,8 +94,8 @@ fn compare(count: u64, seed: u64) -> i32 {
 }
 
 #[cfg(original)]
-fn answers(count: u64, seed: u64, places: u64) -> i32 {
-    comparison::answers::print(&mut comparison::original::Original, count, seed, places as usize);
+fn answers(count: u64, seed: u64, places: u64, steps: u64) -> i32 {
+    comparison::answers::print(&mut comparison::original::Original, count, seed, places as usize, steps);
     0
 }
 

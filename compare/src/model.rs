@@ -126,6 +126,27 @@ struct Steps<'a> {
     soft: bool,
 }
 
+/// The steps' own judgement of routes, for what is said of a plan.
+pub struct Judge<'a> {
+    problem: &'a Problem,
+    events: Events,
+}
+
+impl<'a> Judge<'a> {
+    pub fn new(problem: &'a Problem) -> Self {
+        Judge { problem, events: Events::new() }
+    }
+
+    pub fn fits_and_passes(&mut self, route: &[usize]) -> bool {
+        Steps::new(self.problem, &mut self.events).fits_and_passes(route)
+    }
+
+    /// The computed cost of routes that are not empty.
+    pub fn cost(&mut self, routes: &[Vec<usize>]) -> f64 {
+        Steps::new(self.problem, &mut self.events).cost(routes)
+    }
+}
+
 /// A route with a stop put in, front to back.
 fn trial(route: &[usize], at: usize, stop: usize) -> impl Iterator<Item = usize> + '_ {
     route[..at].iter().copied().chain(once(stop)).chain(route[at..].iter().copied())
@@ -396,7 +417,7 @@ impl<'a> Steps<'a> {
     }
 
     /// The pool's cost: distance and fixed cost in distance, summed in route order.
-    fn cost(&self, routes: &Routes) -> f64 {
+    fn cost(&self, routes: &[Vec<usize>]) -> f64 {
         routes.iter().fold(0.0, |sum, route| sum + (self.route_distance(route) + self.fixed))
     }
 

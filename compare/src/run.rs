@@ -3,6 +3,7 @@
 use std::panic::{catch_unwind, AssertUnwindSafe};
 
 use crate::answers::call_line;
+use crate::claim::broken;
 use crate::generate::{case, case_seed, Case};
 use crate::problem::{Answer, Call, Plan, Problem, Side, KINDS, ROWS};
 
@@ -50,6 +51,9 @@ pub fn run_case(sides: &mut [&mut dyn Side], case: &Case, count: u64, seen: &mut
         let mut faults = vec![];
         if right.refusal() != asked.refusal {
             faults.push(format!("refusal {:?} was planned", asked.refusal));
+        }
+        if let Some(what) = broken(&case.problem, &case.plan, &given, &plan, &asked.call, &right) {
+            faults.push(format!("demand 3: {what}"));
         }
         for side in sides[1..].iter_mut() {
             let mut other = given.clone();

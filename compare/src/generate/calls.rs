@@ -20,7 +20,11 @@ impl Maker {
         let mut model = Model::default();
         let edge = matches!(kind, Kind::Gain | Kind::Quick);
         for index in 0..self.random.between(1, 4) {
-            let eliminate = if kind == Kind::Quick && index == 0 { 0 } else { 34 };
+            let eliminate = match kind {
+                Kind::Quick if index == 0 => 0,
+                Kind::ShortWay if index == 0 => 100,
+                _ => 34,
+            };
             let mut call = if self.random.chance(eliminate) {
                 Call::Eliminate { cells: self.cells() }
             } else {
@@ -44,7 +48,7 @@ impl Maker {
     fn minimise(&mut self, problem: &Problem, plan: &Plan, model: &mut Model) -> Call {
         let large = problem.places > 40;
         let limit = match self.random.below(100) {
-            0..=3 if two_short(plan) => 65_535,
+            0..=5 if two_short(plan) => 65_535,
             0..=5 => 0,
             6..=13 => 1,
             14..=21 => 2,
@@ -84,14 +88,20 @@ impl Maker {
         call
     }
 
-    /// A call other than minimise and eliminate.
+    /// A call other than minimise and eliminate, more often one that says more.
     pub(super) fn route_call(&mut self, problem: &Problem, routes: &Routes, target: &Routes) -> Call {
+        let kind = self.random.pick(&[2, 2, 2, 2, 3, 3, 3, 3, 3, 3, 4, 4, 5, 5, 5, 6, 7, 7, 8, 9]);
+        self.route_call_of(kind, problem, routes, target)
+    }
+
+    /// A call of the kind with this number in `KINDS`.
+    pub(super) fn route_call_of(&mut self, kind: usize, problem: &Problem, routes: &Routes, target: &Routes) -> Call {
         let route = self.route(problem, routes, target);
-        match self.random.below(20) {
-            0..=3 => Call::RouteFeasible { route },
-            4..=9 => Call::RouteEval { route },
-            10..=11 => Call::EffectiveCost { route },
-            12..=14 => {
+        match kind {
+            2 => Call::RouteFeasible { route },
+            3 => Call::RouteEval { route },
+            4 => Call::EffectiveCost { route },
+            5 => {
                 let walks = vec![route.iter().map(|&stop| stop as usize).collect()];
                 let rest = match problem.vehicle.rest {
                     Some(rest) if self.random.chance(40) => rest,
@@ -99,9 +109,9 @@ impl Maker {
                 };
                 Call::Schedule { route, rest }
             }
-            15 => Call::RouteDistance { route },
-            16 | 17 => Call::LatenessBound,
-            18 => Call::GainFloor,
+            6 => Call::RouteDistance { route },
+            7 => Call::LatenessBound,
+            8 => Call::GainFloor,
             _ => {
                 let ready = self.any_float();
                 let due = match self.random.below(4) {
@@ -118,9 +128,9 @@ impl Maker {
     fn route(&mut self, problem: &Problem, routes: &Routes, target: &Routes) -> Vec<u16> {
         let narrow = |route: &Vec<usize>| -> Vec<u16> { route.iter().map(|&stop| stop as u16).collect() };
         match self.random.below(20) {
-            0..=5 if !routes.is_empty() => narrow(&routes[self.random.below(routes.len())]),
-            6..=13 if !target.is_empty() => narrow(&target[self.random.below(target.len())]),
-            14 => vec![],
+            0..=4 if !routes.is_empty() => narrow(&routes[self.random.below(routes.len())]),
+            5..=12 if !target.is_empty() => narrow(&target[self.random.below(target.len())]),
+            13 | 14 => vec![],
             _ => {
                 let mut stops: Vec<u16> = (0..problem.places as u16).collect();
                 stops.retain(|&stop| stop as usize != problem.vehicle.depot);

@@ -28,13 +28,13 @@ impl Maker {
             }
         }
         for _ in 0..self.random.between(3, 7) {
-            let mut call = match self.random.below(10) {
+            let mut call = match self.random.below(14) {
                 0..=3 => {
                     let tape = vec![self.random.word(); self.random.between(1, 3)];
                     Call::Minimise { limit: self.random.below(6), tape, clock: 20, cells: self.cells() }
                 }
                 4 | 5 => Call::Eliminate { cells: self.cells() },
-                _ => self.route_call(&good, target, target),
+                kind => self.route_call_of(kind - 4, &good, target, target),
             };
             let mut rows = of_problem.clone();
             if call.kind() <= 1 {

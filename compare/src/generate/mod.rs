@@ -42,6 +42,8 @@ enum Kind {
     Break,
     /// A gain at the edge of a tolerance.
     Gain,
+    /// A gain that falls and rises with each stop.
+    ShortWay,
     /// One insertion at the edge of the quick test.
     Quick,
     /// A break after which a stop is reached before it is reached without one, by rounding.
@@ -68,43 +70,50 @@ struct Maker {
 impl Maker {
     fn case(&mut self, seed: u64, most: usize) -> Case {
         let kind = match self.random.below(100) {
-            0..=43 => Kind::General,
-            44..=54 => Kind::Capacity,
-            55..=68 => Kind::Windows,
-            69..=79 => Kind::Break,
-            80..=89 => Kind::Gain,
-            90..=95 => Kind::Quick,
+            0..=42 => Kind::General,
+            43..=53 => Kind::Capacity,
+            54..=66 => Kind::Windows,
+            67..=77 => Kind::Break,
+            78..=86 => Kind::Gain,
+            87..=88 => Kind::ShortWay,
+            89..=94 => Kind::Quick,
             _ => Kind::Labels,
         };
         let places = match kind {
             Kind::General => self.places(),
             Kind::Capacity => self.random.between(5, 13),
-            Kind::Gain => self.random.between(4, 8),
-            Kind::Quick | Kind::Labels => self.random.between(4, 6),
+            Kind::Gain | Kind::ShortWay => self.random.between(4, 8),
+            Kind::Quick => self.random.between(4, 7),
+            Kind::Labels => self.random.between(4, 6),
             _ => self.random.between(3, 9),
         };
         let (kind, places) = if places > most { (Kind::General, most) } else { (kind, places) };
         self.scale = self.scale_for(kind);
         let mut problem = self.problem(places);
-        let (routes, target) = match kind {
-            Kind::Quick | Kind::Labels => {
-                let routes = if kind == Kind::Quick { self.quick(&mut problem) } else { self.labels(&mut problem) };
-                (routes.clone(), routes)
-            }
-            _ => {
-                let routes = self.routes(kind, &problem);
-                let target = self.target(&routes);
-                self.fit(kind, &mut problem, &routes, &target);
-                (routes, target)
-            }
+        let routes = match kind {
+            Kind::Gain => self.gain(&mut problem),
+            Kind::ShortWay => self.short_way(&mut problem),
+            Kind::Quick => self.quick(&mut problem),
+            Kind::Labels => self.labels(&mut problem),
+            _ => self.routes(kind, &problem),
         };
+        let mut target = routes.clone();
+        if matches!(kind, Kind::General | Kind::Capacity | Kind::Windows | Kind::Break) {
+            target = self.target(&routes);
+            self.fit(kind, &mut problem, &routes, &target);
+        }
         let mut plan = Plan::of(&self.with_empty(routes.clone()));
         let mut calls = Vec::new();
         if self.random.chance(if kind == Kind::General { 40 } else { 2 }) {
             self.damaged(&mut problem, &mut plan, &target, &mut calls);
         } else {
             self.plan_calls(kind, &problem, &plan, &mut calls);
-            let more = if matches!(kind, Kind::Break | Kind::Labels) { 4 } else { 0 };
+            if kind == Kind::Labels {
+                let route: Vec<u16> = routes[0].iter().map(|&stop| stop as u16).collect();
+                calls.push(Asked { call: Call::RouteFeasible { route: route.clone() }, refusal: None });
+                calls.push(Asked { call: Call::RouteEval { route }, refusal: None });
+            }
+            let more = if kind == Kind::Break { 4 } else { 0 };
             for _ in 0..self.random.between(1, 4) + more {
                 let call = self.route_call(&problem, &routes, &target);
                 calls.push(Asked { call, refusal: None });

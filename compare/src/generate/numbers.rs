@@ -37,7 +37,7 @@ pub fn domain(value: f64) -> f64 {
 impl Maker {
     pub(super) fn scale_for(&mut self, kind: Kind) -> Scale {
         match kind {
-            Kind::Gain => self.random.pick(&[Whole, Tenths, Tenths, Thirds, Fractions]),
+            Kind::Gain => self.random.pick(&[Whole, Tenths, Thirds, Fractions, Fractions]),
             Kind::Windows | Kind::Break if self.random.chance(60) => {
                 self.random.pick(&[Tenths, Tenths, Thirds, Fractions, Fractions, Steep])
             }

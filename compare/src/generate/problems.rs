@@ -138,7 +138,6 @@ impl Maker {
         let count = match kind {
             Kind::Capacity => self.random.between(3, 5),
             Kind::Windows => self.random.between(2, 4),
-            Kind::Gain => self.random.between(2, 5),
             _ => match self.random.below(10) {
                 0 => n,
                 1 => 1 + self.random.below(n),
@@ -153,7 +152,7 @@ impl Maker {
     }
 
     /// Stops cut into a number of routes, none empty.
-    fn split(&mut self, stops: Vec<usize>, count: usize) -> Routes {
+    pub(super) fn split(&mut self, stops: Vec<usize>, count: usize) -> Routes {
         let mut cuts: Vec<usize> = (1..stops.len()).collect();
         self.random.shuffle(&mut cuts);
         cuts.truncate(count.saturating_sub(1));
@@ -222,8 +221,10 @@ impl Maker {
                 problem.vehicle.capacity = i32::MAX;
                 let windows = if self.random.chance(60) { Windows::Pressed } else { tight };
                 self.fit_windows(problem, target, percent.max(60), windows);
-                if self.random.chance(15) {
-                    self.fit_penalties(problem);
+                match self.random.below(10) {
+                    0 | 1 => self.soften(problem),
+                    2 => self.fit_penalties(problem),
+                    _ => {}
                 }
                 self.fit_limits(problem, target, 12);
             }
@@ -243,7 +244,6 @@ impl Maker {
                 }
                 self.fit_limits(problem, target, 15);
             }
-            Kind::Gain if routes.len() > 1 => self.gain(problem, routes),
             _ => {
                 let model = if self.random.chance(60) { target } else { routes };
                 self.fit_general(problem, model, percent, tight);
@@ -259,7 +259,7 @@ impl Maker {
         }
         if self.random.chance(60) {
             self.fit_windows(problem, routes, percent, windows);
-            if self.random.chance(4) {
+            if self.random.chance(8) {
                 problem.flags[1..].fill(0);
             }
         }
@@ -407,11 +407,11 @@ impl Maker {
         }
     }
 
-    /// A penalty with a fraction at every place.
+    /// A penalty at every place, 0 or with a fraction.
     fn soften(&mut self, problem: &mut Problem) {
         for i in 0..problem.places {
             problem.flags[i] |= PENALTY;
-            problem.penalty[i] = self.random.unit() * 3.0;
+            problem.penalty[i] = if self.random.chance(25) { 0.0 } else { self.random.unit() * 3.0 };
         }
     }
 
