@@ -20,13 +20,8 @@ const ORIGINAL: [&str; 8] = [
 ];
 
 /// Our files that stand in for what the original's files name, under `stand-ins`.
-const STAND_INS: [&str; 5] = [
-    "distance/mod.rs",
-    "evaluation/check.rs",
-    "evaluation/evaluator.rs",
-    "local_search/or_opt.rs",
-    "models/mod.rs",
-];
+const STAND_INS: [&str; 5] =
+    ["distance/mod.rs", "evaluation/check.rs", "evaluation/evaluator.rs", "local_search/or_opt.rs", "models/mod.rs"];
 
 /// Modules of `local_search` that the original declares and the port leaves out, with the one name each must have.
 const LEFT_OUT: [(&str, &str); 6] = [

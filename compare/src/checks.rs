@@ -21,9 +21,7 @@ pub fn refusal(problem: &Problem, plan: &Plan, call: &Call) -> Option<u8> {
             (8, *limit > 65_535),
             (9, cells.u16s < 8_192 || cells.f64s < 2_048),
         ])),
-        Call::Eliminate { cells } => {
-            of_plan(problem, plan).or(first(&[(9, cells.u16s < 8_192 || cells.f64s < 2_048)]))
-        }
+        Call::Eliminate { cells } => of_plan(problem, plan).or(first(&[(9, cells.u16s < 8_192 || cells.f64s < 2_048)])),
         Call::RouteFeasible { route }
         | Call::RouteEval { route }
         | Call::EffectiveCost { route }
@@ -44,7 +42,7 @@ fn of_problem(p: &Problem, beside: &[f64]) -> Option<u8> {
         return Some(1);
     }
     let records = [p.demand.len(), p.service.len(), p.ready.len(), p.due.len(), p.penalty.len(), p.flags.len()];
-    let times = p.times.len() == 0 || p.times.len() == n * n;
+    let times = p.times.is_empty() || p.times.len() == n * n;
     if records.iter().any(|&length| length != n) || p.distances.len() != n * n || !times {
         return Some(1);
     }

@@ -64,7 +64,6 @@ fn compare(count: u64, seed: u64) -> i32 {
     use comparison::{cases, model::Model, original::Original, problem::Side, run};
 
     println!("the original in {ORIGINAL} against the model: {count} calls, seed {seed}");
-    std::panic::set_hook(Box::new(|_| {}));
     let mut original = Original;
     let mut model = Model::default();
     let mut fault = false;

@@ -31,8 +31,7 @@ impl Side for Original {
             Call::Minimise { limit, tape, clock, .. } => {
                 let mut tape = Tape::new(tape);
                 let clock = Deadline::new(*clock);
-                let routes =
-                    minimize_routes(plan.routes(), &places, &distances, &vehicle, *limit, &mut tape, &clock);
+                let routes = minimize_routes(plan.routes(), &places, &distances, &vehicle, *limit, &mut tape, &clock);
                 Answer::Minimised { routes: plan.write(&routes), steps: clock.steps(), draws: tape.draws }
             }
             Call::Eliminate { .. } => {

@@ -191,8 +191,14 @@ pub struct Eval {
 #[derive(Clone, Debug)]
 pub enum Answer {
     Refused(u8),
-    Minimised { routes: u64, steps: u64, draws: u64 },
-    Eliminated { routes: u64 },
+    Minimised {
+        routes: u64,
+        steps: u64,
+        draws: u64,
+    },
+    Eliminated {
+        routes: u64,
+    },
     Feasible(bool),
     Value(f64),
     Route(Option<Eval>),

@@ -19,7 +19,7 @@ pub trait RngExt: Rng {
     /// True for an even word: the original asks for 0.5 only.
     fn random_bool(&mut self, half: f64) -> bool {
         assert!(half == 0.5);
-        self.word() % 2 == 0
+        self.word().is_multiple_of(2)
     }
 }
 

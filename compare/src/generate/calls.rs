@@ -48,7 +48,7 @@ impl Maker {
     fn minimise(&mut self, problem: &Problem, plan: &Plan, model: &mut Model) -> Call {
         let large = problem.places > 40;
         let limit = match self.random.below(100) {
-            0..=5 if two_short(plan) => 65_535,
+            0..=13 if two_short(plan) => 65_535,
             0..=5 => 0,
             6..=13 => 1,
             14..=21 => 2,

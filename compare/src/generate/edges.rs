@@ -5,8 +5,8 @@ use super::{after, Maker, Routes};
 use crate::problem::{Break, Problem, WINDOW};
 
 impl Maker {
-    /// Routes, and distances by which one of them put into another saves what a test asks for, to the bit or nearly: the
-    /// tolerance of the pool, the gain floor, or nothing.
+    /// Routes, and distances by which one of them put into another saves what a test asks for, to the bit or nearly:
+    /// the tolerance of the pool, the gain floor, or nothing.
     pub(super) fn gain(&mut self, problem: &mut Problem) -> Routes {
         let n = problem.places;
         let depot = problem.vehicle.depot;
@@ -60,8 +60,8 @@ impl Maker {
         routes
     }
 
-    /// Two routes, [x, y] and another: x goes into the other for less than nothing, and y then for more than is saved, so
-    /// that together they pay, or just do not.
+    /// Two routes, [x, y] and another: x goes into the other for less than nothing, and y then for more than is saved,
+    /// so that together they pay, or just do not.
     pub(super) fn short_way(&mut self, problem: &mut Problem) -> Routes {
         let n = problem.places;
         let depot = problem.vehicle.depot;
@@ -91,9 +91,9 @@ impl Maker {
         vec![stops[..2].to_vec(), stops[2..].to_vec()]
     }
 
-    /// Two routes, [p, q] and [c]: c goes before p, and q is then reached when it is due, to the bit, or left to be home
-    /// by the limit. The sizes of the legs are drawn so that the latest arrival at p is rounded, cancelled, close to 0,
-    /// or none by rounding. Sometimes another stop must leave for c.
+    /// Two routes, [p, q] and [c]: c goes before p, and q is then reached when it is due, to the bit, or left to be
+    /// home by the limit. The sizes of the legs are drawn so that the latest arrival at p is rounded, cancelled, close
+    /// to 0, or none by rounding. Sometimes another stop must leave for c.
     pub(super) fn quick(&mut self, problem: &mut Problem) -> Routes {
         let n = problem.places;
         let depot = problem.vehicle.depot;

@@ -27,9 +27,8 @@ impl Maker {
         };
         let service_percent = self.random.pick(&[0, 0, 50, 100]);
         let shrink = self.random.pick(&[1.0, 0.5, 0.1]);
-        let service = (0..n)
-            .map(|_| if self.random.chance(service_percent) { self.number() * shrink } else { 0.0 })
-            .collect();
+        let service =
+            (0..n).map(|_| if self.random.chance(service_percent) { self.number() * shrink } else { 0.0 }).collect();
         let kind = self.random.below(12);
         let demand = (0..n).map(|_| self.demand(kind)).collect();
         let fixed_cost = match self.random.below(5) {
