@@ -192,12 +192,13 @@ impl Maker {
 
     /// A plan with empty routes here and there, sometimes up to 256 in all.
     pub(super) fn with_empty(&mut self, mut routes: Routes) -> Routes {
+        let most = 256 - routes.len();
         let more = match self.random.below(40) {
             0..=7 => self.random.between(1, 3),
-            8 => 256 - routes.len(),
+            8 => most,
             _ => 0,
         };
-        for _ in 0..more {
+        for _ in 0..more.min(most) {
             let at = self.random.below(routes.len() + 1);
             routes.insert(at, vec![]);
         }
