@@ -1,4 +1,7 @@
--- laws of the distance of a route, an insertion and the cost of a plan, for their functions
+-- What the functions' proofs lean on.
+-- the distance of a route, an insertion, the cost of a plan
 pub mod DistanceLaws
--- laws of loads and the check, for their functions
+-- loads, room, and the check where it is needed
 pub mod CheckLaws
+-- for callers: from the parts that a function reads to the whole problem
+pub mod ReadLaws
