@@ -27,7 +27,7 @@ pub fn served_at(arrival: f64, customer: Customer) -> Left
     let Window::Is(tw) = window else {
         return Left::At(arrival + customer.service_duration);
     };
-    if tw.is_violated(arrival) {
+    if arrival > tw.due {
         return Left::Missed;
     }
     let start = arrival + tw.waiting_time(arrival);
