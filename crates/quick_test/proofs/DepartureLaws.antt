@@ -4,7 +4,7 @@ use native.Mathlib.Nat.{le-antisymm}
 use native.Mathlib.Numerals.{add-one}
 use native.Mathlib.Omega.{arith}
 use mathlib.Core.Path.{_≡_, refl, sym, ap, _∙_}
-use mathlib.Core.Bool.{Bool, true, false, cond}
+use mathlib.Core.Bool.{true, false}
 use mathlib.Core.List.{List, [], _∷_, _++_, append-assoc, append-nil}
 use mathlib.Core.Option.{Option, none, some}
 use lib.ListN.{length, getD, take, drop, set, length-set, drop-of-length-le}
@@ -34,14 +34,15 @@ module _ (arrival : Float) (c : Customer) where
   unfolding served-at
   served-none e = sym (ap (served-in arrival c) e)
 
-  pub served-missed : (w : TimeWindow) (v : Bool) → c .«time_window» ≡ WindowIs w → v ≡ is-violated w arrival → v ≡ true → Missed ≡ served-at arrival c
-  unfolding served-at
-  served-missed w v e ev t = rw (e, ← ev, t)
+  module _ (w : TimeWindow) (e : c .«time_window» ≡ WindowIs w) where
+    pub served-missed : is-violated w arrival ≡ true → Missed ≡ served-at arrival c
+    unfolding served-at
+    served-missed t = rw (e, t)
 
-  pub served-in-time : (w : TimeWindow) (wait : Float) (v : Bool) → c .«time_window» ≡ WindowIs w → v ≡ is-violated w arrival → v ≡ false
-      → wait ≡ waiting-time w arrival → LeftAt (arrival ⊕ wait ⊕ c .«service_duration») ≡ served-at arrival c
-  unfolding served-at
-  served-in-time w wait v e ev f ew = rw (e, ← ev, f, ew)
+    pub served-in-time : (wait : Float) → is-violated w arrival ≡ false → wait ≡ waiting-time w arrival
+        → LeftAt (arrival ⊕ wait ⊕ c .«service_duration») ≡ served-at arrival c
+    unfolding served-at
+    served-in-time wait f ew = rw (e, f, ew)
 
 pub ruleset served-laws = (served-none, served-missed, served-in-time)
 

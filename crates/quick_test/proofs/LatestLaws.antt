@@ -4,7 +4,7 @@ use native.Mathlib.Nat.{le-refl}
 use native.Mathlib.Omega.{arith}
 use mathlib.Core.Path.{_≡_, refl, sym, ap, _∙_}
 use mathlib.Core.Bool.{true, false}
-use mathlib.Core.List.{List, [], _∷_, _++_, append-nil}
+use mathlib.Core.List.{List, _∷_, _++_, append-nil}
 use lib.ListN.{length, getD, take, drop, set, length-set}
 use lib.Seq.{drop-cons, drop-length, take-suc, take-set-lt, take-set-le, drop-set-lt, append-snoc, set-at, length-take-le}
 use lib.Ieee.{Float, nan, neg, lt}

@@ -3,7 +3,6 @@
 ghost use mathlib.Core.Path.{_≡_};
 ghost use Prim.Native.Nat.{_-_, _≤_, _<_};
 ghost use lib.ListN.{length, getD, take, drop};
-ghost use Rattle.floats.specs.Binary64.{_⊖_};
 ghost use Rattle.models.specs.Customer.{customers, customer-at};
 ghost use Rattle.models.specs.Problem.{matrix, Square, Fit, Stops};
 ghost use Rattle.local_search.specs.Route.{prev-stop};
@@ -27,7 +26,7 @@ pub fn served_at(arrival: f64, customer: Customer) -> Left
     let Window::Is(tw) = window else {
         return Left::At(arrival + customer.service_duration);
     };
-    if tw.is_violated(arrival) {
+    if arrival > tw.due {
         return Left::Missed;
     }
     let start = arrival + tw.waiting_time(arrival);

@@ -1,7 +1,6 @@
 -- `latest_arrivals` meets its contract.
 use Prim.Native.Nat.{_-_}
 use borrow.Author.Needs.{needs}
-use lib.ListN.{length}
 use native.Mathlib.Omega.{arith}
 use Rattle.models.specs.Customer.{customers}
 use Rattle.models.specs.Problem.{matrix}

@@ -13,9 +13,6 @@ enum-told c = search needs
 returns : tie.Need-returns
 returns c = search served-laws
 
-is-violated-requires : tie.Need-is-violated-requires
-is-violated-requires c κs = search needs
-
 returns-2 : tie.Need-returns-2
 returns-2 c = search served-laws
 
@@ -32,7 +29,6 @@ served-at-spec =
     enum-known-window
     enum-told
     returns
-    is-violated-requires
     returns-2
     waiting-time-requires
     returns-3)
