@@ -9,7 +9,7 @@ use native.Mathlib.Omega.{arith}
 use lib.ListN.{length}
 use lib.Ieee.{Float, lt, le}
 use Rattle.floats.specs.Binary64.{_⊕_, _⊖_, 0f, is-finite}
-use Rattle.laws.specs.All.{All, all-nil, all-cons, all-append}
+use Rattle.laws.specs.All.{All, all-of, all-nil, all-cons, all-append}
 use Rattle.laws.specs.Edits.{insert-at, erase, length-erase, all-erase}
 use Rattle.laws.specs.Keeps.{keep, length-keep, all-keep}
 use Rattle.laws.specs.Counts.{count, count-insert-at}
@@ -20,7 +20,7 @@ use Rattle.models.specs.Problem.{Problem}
 use Rattle.plan.specs.Plan.{Plan, route, put-in, non-empty, drop-empty, occurs}
 use Rattle.plan.specs.Routes.{length-put-in, occurs-put-in, all-put-in, occurs-erase}
 use Rattle.plan.specs.Dropped.{occurs-drop-empty}
-use Rattle.local_search.specs.Options.{bind, then-some, Each, each-then-some, each-bind}
+use Rattle.local_search.specs.Options.{bind, then-some, Each, each-then-some, each-bind, each-map}
 use Rattle.local_search.specs.Route.{gain-floor, Insertion}
 use Rattle.local_search.specs.Feasible.{load, fits, has-room, checked, feasible}
 use Rattle.local_search.specs.RouteLaws.{has-room-fits}
@@ -121,6 +121,13 @@ module _ (p : Problem) (G : List ℕ → Type 0) (pass : (r : List ℕ) → feas
         kinds = all-erase r g;
       })))
       (λ _. tt)
+
+-- an accepted attempt leaves fewer routes, so `rounds-enough` speaks of this search: the bound on the rounds never cuts it short
+pub attempt-fewer : (p : Problem) (routes : Plan) (r : ℕ) (n : Counts) → r < length routes → Each (λ x. length x < length routes) (attempt p routes r n .plan)
+unfolding attempt
+attempt-fewer p routes r n r-in =
+    each-map (Better (λ q. Unit) routes) (λ x. length x < length routes) (without-route p routes r) (λ x b. omega (arith, b .fewer))
+    (without-better p (λ q. Unit) (λ q _. tt) routes r r-in (all-of routes [] (λ i h. tt)))
 
 -- ---- the search
 

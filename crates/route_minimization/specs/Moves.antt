@@ -51,11 +51,38 @@ other-apart a b =
     cond-rule (λ (k : ℕ). a ≡ k → ⊥) (leb a b) {x = suc b} {y = b} (λ e q. omega (arith, leb-true a b e)) (λ e q. omega (arith, leb-false a b e))
 
 -- two different routes of the plan, neither of them empty
-record Between (routes : Plan) (a b : ℕ) : Type 0 where
-  first-in : a < length routes
-  second-in : b < length routes
-  apart : a ≡ b → ⊥
-  full : both-non-empty a b routes ≡ true
+pub record Between (routes : Plan) (a b : ℕ) : Type 0 where
+  pub first-in : a < length routes
+  pub second-in : b < length routes
+  pub apart : a ≡ b → ⊥
+  pub full : both-non-empty a b routes ≡ true
+
+-- ---- a move as the source makes it: the two new routes, tested and then put in place
+
+module _ (p : Problem) (routes : Plan) (a b : ℕ) (w : Between routes a b) (i j : ℕ) where
+  pub exchange-by-routes : (ra rb : List ℕ) → ra ≡ set (route a routes) i (getD (route b routes) j 0) → rb ≡ set (route b routes) j (getD (route a routes) i 0)
+      → try-exchange p a i b j routes ≡ cond (feasible p ra && feasible p rb) (set (set routes a ra) b rb) routes
+  unfolding try-exchange
+  exchange-by-routes ra rb ea eb =
+      rw (
+        first-exchange-stops a i b j routes (w .apart) (w .first-in) (w .second-in),
+        second-exchange-stops a i b j routes (w .apart) (w .first-in) (w .second-in),
+        ea,
+        eb,
+      ) (unfold exchange-stops in refl)
+
+  pub tails-by-routes : (ra rb : List ℕ) → ra ≡ take i (route a routes) ++ drop j (route b routes) → rb ≡ take j (route b routes) ++ drop i (route a routes)
+      → try-tails p a i b j routes ≡ cond (non-empty ra && non-empty rb) (cond (feasible p ra && feasible p rb) (set (set routes a ra) b rb) routes) routes
+  unfolding try-tails
+  tails-by-routes ra rb ea eb =
+      rw (
+        first-exchange-tails a i b j routes (w .apart) (w .first-in) (w .second-in),
+        second-exchange-tails a i b j routes (w .apart) (w .first-in) (w .second-in),
+        ea,
+        eb,
+      ) (unfold exchange-tails in refl)
+
+-- ---- what stands keeps
 
 module _ (p : Problem) (G : List ℕ → Type 0) (pass : (r : List ℕ) → feasible p r ≡ true → non-empty r ≡ true → G r)
     (Q : Plan → Type 0) (routes : Plan) (step : (x : Plan) → Moves G routes x → Q x) (here : Q routes)
