@@ -8,8 +8,8 @@ use mathlib.Core.Option.{Option, none, some}
 use native.Mathlib.Omega.{arith}
 use native.Mathlib.Nat.{le-refl, suc-mul, mul-add, mul-comm, mul-le-mul-right}
 use lib.ListN.{length, length-map}
-use Rattle.laws.specs.All.{All, all-nil, all-cons}
-use Rattle.laws.specs.Keeps.{keep, length-keep, all-keep}
+use Rattle.laws.specs.All.{All, all-cons}
+use Rattle.laws.specs.Keeps.{length-keep, all-keep}
 use Rattle.laws.specs.Sorts.{range, smallest, sort-by, all-range, all-sort-by, length-range, length-sort-by}
 use Rattle.plan.specs.Plan.{Plan, lengths-of, non-empty, drop-empty, occurs}
 use Rattle.plan.specs.Order.{order}

@@ -1,33 +1,33 @@
 -- Laws of one route: the load of a route with a stop put in, the check where it is not needed, what a feasible route keeps; and the cost of a
 -- plan is an f64. Assumes nothing.
-use Prim.Native.Nat.{ℕ, suc}
-use mathlib.Core.Path.{_≡_, refl, sym, ap, subst, _∙_}
+use Prim.Native.Nat.{ℕ}
+use mathlib.Core.Path.{_≡_, refl, sym, ap, _∙_}
 use mathlib.Core.List.{List, [], _∷_, _++_}
-use mathlib.Core.Bool.{Bool, true, false, cond, not, _&&_, _||_, true≢false, false≢true}
+use mathlib.Core.Bool.{Bool, true, false, not, _&&_, _||_, true≢false, false≢true}
 use lib.ListN.{getD, take, drop, take-append-drop}
 use lib.IntN.{ℤ, pos as nonneg, _+ℤ_, +ℤ-idl, +ℤ-idr, +ℤ-assoc, +ℤ-comm}
 use lib.Dec.{T}
 use lib.Ieee.{Float, binary64, ofBits, fits as is-f64}
 use lib.Ieee.Fits.{add-fits}
 use Rattle.floats.specs.Binary64.{_⊕_, 0f}
-use Rattle.laws.specs.All.{All, all-default}
+use Rattle.laws.specs.All.{all-default}
 use Rattle.laws.specs.Edits.{insert-at}
 use Rattle.laws.specs.Loops.{foldl}
-use Rattle.laws.specs.Searches.{any, any-none}
+use Rattle.laws.specs.Searches.{any-none}
 use Rattle.laws.specs.Walks.{walk}
 use Rattle.models.specs.declared.vehicle.Limit.{Limit}
 use Rattle.models.specs.declared.vehicle.Limit.the-variants.{None as NoLimit, At as LimitAt}
 use Rattle.models.specs.declared.vehicle.Rest.{Rest}
 use Rattle.models.specs.declared.vehicle.Rest.the-variants.{None as NoRest, Break}
-use Rattle.models.specs.Customer.{Customers, customer-at, windowed, window-at}
+use Rattle.models.specs.Customer.{Customers, windowed}
 use Rattle.models.specs.Vehicle.{fixed-cost-in-distance}
 use Rattle.models.specs.RouteLimits.{NONE, limits-of, no-limit, no-rest, is-unlimited}
 use Rattle.models.specs.Problem.{DistanceMatrix, Problem, depot}
 use Rattle.evaluation.specs.declared.check.Way.{Way}
-use Rattle.evaluation.specs.Check.{has-time-windows, departure, departure-in, set-out, reach, reach-all, home-allowed, homeward, feasible-with, route-feasible}
+use Rattle.evaluation.specs.Check.{has-time-windows, departure, set-out, reach, reach-all, home-allowed, homeward, feasible-with, route-feasible}
 use Rattle.plan.specs.Plan.{Plan}
 use Rattle.local_search.specs.Route.{route-distance, cost}
-use Rattle.local_search.specs.Feasible.{demand-at, load, fits, has-room, constrained, passes, checked, feasible}
+use Rattle.local_search.specs.Feasible.{Sound, demand-at, load, fits, has-room, constrained, passes, checked, feasible}
 
 -- ---- two tests that both pass
 
@@ -107,10 +107,6 @@ unneeded p r e = go (p .vehicle .«max_distance») (p .vehicle .«max_duration»
     go (LimitAt x) b t h = absurd (false≢true (h .1))
 
 -- ---- what a feasible route keeps: "within capacity and passes the check"
-
-pub record Sound (p : Problem) (r : List ℕ) : Type 0 where
-  pub within-capacity : fits p (load (p .demand) r) ≡ true
-  pub passes-check : passes p r ≡ true
 
 checked-passes : (p : Problem) (r : List ℕ) → checked p r ≡ true → passes p r ≡ true
 checked-passes p r h = go (constrained p) refl h

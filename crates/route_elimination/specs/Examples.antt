@@ -1,7 +1,7 @@
 -- The definitions computed on small plans: what a slip in them would change. Assumes nothing.
 use Prim.Native.Nat.{ℕ}
 use mathlib.Core.Path.{_≡_, refl}
-use mathlib.Core.List.{List, [], _∷_}
+use mathlib.Core.List.{[], _∷_}
 use lib.ListN.{replicate}
 use lib.IntN.{pos}
 use lib.Ieee.{Float, binary64, ofInt}

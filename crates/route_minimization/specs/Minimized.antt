@@ -1,17 +1,15 @@
 -- What an attempt keeps, and what the search keeps: steps and draws are bounded, every place occurs as often as before, every route is of a kind
 -- that the given routes and every feasible route have, and there are no more routes. Assumes nothing.
-use Prim.Native.Nat.{ℕ, zero, suc, _+_, _*_, _≤_, _<_}
-use mathlib.Core.Path.{_≡_, refl, sym, ap, subst, _∙_}
-use mathlib.Core.Bool.{true, false}
+use Prim.Native.Nat.{ℕ, suc, _+_, _*_, _≤_, _<_}
+use mathlib.Core.Path.{_≡_, refl, ap, subst, _∙_}
+use mathlib.Core.Bool.{true}
 use mathlib.Core.List.{List, [], _∷_, _++_, reverse}
-use mathlib.Core.Option.{Option, none, some}
 use native.Mathlib.Nat.{le-refl}
 use native.Mathlib.Omega.{arith}
 use lib.ListN.{length, length-set}
-use lib.Ieee.{Float}
 use Rattle.laws.specs.All.{All, all-of, all-set}
-use Rattle.laws.specs.Edits.{insert-at, erase, length-erase, all-erase}
-use Rattle.laws.specs.Keeps.{keep, length-keep}
+use Rattle.laws.specs.Edits.{insert-at, length-erase, all-erase}
+use Rattle.laws.specs.Keeps.{length-keep}
 use Rattle.laws.specs.Counts.{count, count-append, count-reverse}
 use Rattle.laws.specs.Loops.{cond-rule}
 use Rattle.models.specs.Problem.{Problem}
@@ -26,8 +24,7 @@ use Rattle.local_search.specs.Rounds.{Counts, Tried, Result, reduce}
 use Rattle.local_search.specs.Reduced.{Better, Bounded, triangle, Ended, reduce-ended}
 use Rattle.route_minimization.specs.Cheapest.{cheapest}
 use Rattle.route_minimization.specs.Eject.{Ejection, kept, eject, into, make-room, gone}
-use Rattle.route_minimization.specs.Perturb.{Drawn, perturb}
-use Rattle.route_minimization.specs.Minimize.{Allowance, State, Turn, stop, more, at-limit, run-pool, empty-into, if-cheaper, attempt, minimize-routes}
+use Rattle.route_minimization.specs.Minimize.{Allowance, State, at-limit, run-pool, empty-into, if-cheaper, attempt, minimize-routes}
 use Rattle.route_minimization.specs.Found.{insert-non-empty, Inserts, cheapest-found, Ejects, ejects-count, eject-found}
 use Rattle.route_minimization.specs.Moves.{Moves, perturb-rule, perturb-draws}
 use Rattle.route_minimization.specs.Turns.{Then, turn-rule, pool-rule}

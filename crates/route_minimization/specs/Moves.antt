@@ -1,16 +1,16 @@
 -- What a random move may change: it leaves the number of routes and the places as they are, and the two routes that it makes are feasible and not
 -- empty; and how much a perturbation draws. Assumes nothing.
-use Prim.Native.Nat.{ℕ, zero, suc, _+_, _*_, _-_, _%_, _≤_, _<_}
-use mathlib.Core.Path.{_≡_, refl, sym, ap, subst, _∙_}
-use mathlib.Core.Bool.{Bool, true, false, cond, _&&_, false≢true}
+use Prim.Native.Nat.{ℕ, zero, suc, _+_, _*_, _-_, _≤_, _<_}
+use mathlib.Core.Path.{_≡_, refl, subst}
+use mathlib.Core.Bool.{true, cond, _&&_, false≢true}
 use mathlib.Core.List.{List, [], _∷_, _++_}
 use native.Mathlib.Nat.{le-refl, mod-lt}
 use native.Mathlib.Omega.{arith}
 use borrow.Author.Tests.{ltb-false, leb-true, leb-false}
-use lib.ListN.{length, getD, take, drop, set, length-set}
+use lib.ListN.{length, getD, take, drop, set}
 use lib.Dec.{leb, ltb}
 use Rattle.laws.specs.All.{All}
-use Rattle.laws.specs.Loops.{loop, cond-rule, loop-rule}
+use Rattle.laws.specs.Loops.{cond-rule, loop-rule}
 use Rattle.models.specs.Problem.{Problem}
 use Rattle.plan.specs.Plan.{Plan, route, exchange-stops, exchange-tails, non-empty, occurs}
 use Rattle.plan.specs.Exchanges.{length-exchange-stops, all-exchange-stops, occurs-exchange-stops, first-exchange-stops, second-exchange-stops, length-exchange-tails, all-exchange-tails, occurs-exchange-tails, first-exchange-tails, second-exchange-tails}
