@@ -13,7 +13,7 @@ use Rattle.floats.specs.Binary64.{_⊕_, 0f}
 use Rattle.laws.specs.All.{all-default}
 use Rattle.laws.specs.Edits.{insert-at}
 use Rattle.laws.specs.Loops.{foldl}
-use Rattle.laws.specs.Searches.{any-none}
+use Rattle.laws.specs.Searches.{any-none, and-first, and-second}
 use Rattle.laws.specs.Walks.{walk}
 use Rattle.models.specs.declared.vehicle.Limit.{Limit}
 use Rattle.models.specs.declared.vehicle.Limit.the-variants.{None as NoLimit, At as LimitAt}
@@ -28,16 +28,6 @@ use Rattle.evaluation.specs.Check.{has-time-windows, departure, set-out, reach,
 use Rattle.plan.specs.Plan.{Plan}
 use Rattle.local_search.specs.Route.{route-distance, cost}
 use Rattle.local_search.specs.Feasible.{Sound, demand-at, load, fits, has-room, constrained, passes, checked, feasible}
-
--- ---- two tests that both pass
-
-pub both-left : (a b : Bool) → (a && b) ≡ true → a ≡ true
-both-left true b h = refl
-both-left false b h = h
-
-pub both-right : (a b : Bool) → (a && b) ≡ true → b ≡ true
-both-right true b h = h
-both-right false b h = absurd (false≢true h)
 
 -- ---- loads
 
@@ -119,7 +109,7 @@ pub feasible-sound : (p : Problem) (r : List ℕ) → feasible p r ≡ true → 
 unfolding feasible
 feasible-sound p r h =
     let a = fits p (load (p .demand) r) in
-    record { within-capacity = both-left a (checked p r) h; passes-check = checked-passes p r (both-right a (checked p r) h) }
+    record { within-capacity = and-first a (checked p r) h; passes-check = checked-passes p r (and-second a (checked p r) h) }
 
 -- ---- the cost of a plan is an f64
 

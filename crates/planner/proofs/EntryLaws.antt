@@ -8,10 +8,10 @@ use mathlib.Core.Option.{Option, none, some}
 use borrow.Author.Tests.{ltb-false, le-ltb, eqb-true, eq-eqb}
 use lib.ListN.{length, drop}
 use lib.Dec.{eqb, ltb}
+use Rattle.laws.specs.Searches.{and-first, and-second}
 use Rattle.models.specs.Problem.{Problem}
 use Rattle.models.specs.Valid.{sizes-pass, values-pass, windows-pass, depot-passes, valid}
 use Rattle.plan.specs.Plan.{Slices, total}
-use Rattle.local_search.specs.RouteLaws.{both-left, both-right}
 use Rattle.planner.specs.Table.{Work, Inputs, bad-lengths, stops-pass, table, first-applying, refusal}
 use Rattle.planner.specs.Run.{entry}
 use Rattle.planner.proofs.StopsLaws.{both}
@@ -84,12 +84,12 @@ module _ (p : Problem) (s : Slices) where
   unfolding refusal first-applying table bad-lengths valid
   enter h =
       let v = h .problem-valid in
-      let v2 = both-right (sizes-pass p) _ v in
-      let v3 = both-right (values-pass p) _ v2 in
-      row-over (not (sizes-pass p)) 1 _ none (ap not (both-left (sizes-pass p) _ v))
-      (row-over (not (values-pass p) || false) 2 _ none (rw (both-left (values-pass p) _ v2))
-      (row-over (not (windows-pass p)) 3 _ none (ap not (both-left (windows-pass p) _ v3))
-      (row-over (not (depot-passes p)) 4 _ none (ap not (both-right (windows-pass p) _ v3))
+      let v2 = and-second (sizes-pass p) _ v in
+      let v3 = and-second (values-pass p) _ v2 in
+      row-over (not (sizes-pass p)) 1 _ none (ap not (and-first (sizes-pass p) _ v))
+      (row-over (not (values-pass p) || false) 2 _ none (rw (and-first (values-pass p) _ v2))
+      (row-over (not (windows-pass p)) 3 _ none (ap not (and-first (windows-pass p) _ v3))
+      (row-over (not (depot-passes p)) 4 _ none (ap not (and-second (windows-pass p) _ v3))
       (row-over (bad-lengths s) 5 _ none (rw (le-ltb 256 (length (s .lengths)) (h .few-routes), eq-eqb (total (s .lengths)) (length (s .stops)) (h .sum)))
       (row-over (not (stops-pass p (s .stops)) || false) 6 _ none (rw (h .stops-valid)) refl)))))
 

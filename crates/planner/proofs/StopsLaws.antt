@@ -6,14 +6,13 @@ use mathlib.Core.Bool.{Bool, true, false, not, _&&_, _||_, true≢false, false�
 use mathlib.Core.List.{List, [], _∷_, _++_}
 use native.Mathlib.Nat.{le-refl}
 use native.Mathlib.Omega.{arith}
-use borrow.Author.Tests.{eqb-true, eqb-false, eq-eqb}
+use borrow.Author.Tests.{eqb-true, eq-eqb}
 use lib.ListN.{length, getD, take, drop}
 use lib.Seq.{take-suc, take-all, drop-cons}
 use lib.Dec.{eqb, ltb}
 use Rattle.laws.specs.Counts.{one-if, count, count-append, count-parts}
-use Rattle.laws.specs.Searches.{any, every}
+use Rattle.laws.specs.Searches.{any, every, and-first, and-second, every-at}
 use Rattle.models.specs.Problem.{Problem, depot}
-use Rattle.local_search.specs.RouteLaws.{both-left, both-right}
 use Rattle.planner.specs.Table.{stop-passes, stops-pass}
 
 pub both : {a b : Bool} → a ≡ true → b ≡ true → (a && b) ≡ true
@@ -24,18 +23,6 @@ not-true true e = absurd (false≢true e)
 not-true false e = refl
 
 -- ---- `every`, number by number
-
-every-each : (t : ℕ → Bool) (m k : ℕ) → every t m k ≡ true → (j : ℕ) → k ≤ j → j < k + m → t j ≡ true
-unfolding every
-every-each t zero k h j a b = absurd (omega arith)
-every-each t (suc m) k h j a b = go (eqb k j) refl (λ c d. every-each t m (suc k) (both-right (t k) (every t m (suc k)) h) j c d)
-  where
-    go : (u : Bool) → eqb k j ≡ u → (suc k ≤ j → j < suc k + m → t j ≡ true) → t j ≡ true
-    go true e rest = rw (← eqb-true k j e) (both-left (t k) (every t m (suc k)) h)
-    go false e rest = rest (further (eqb-false k j e)) (omega arith)
-      where
-        further : (k ≡ j → ⊥) → suc k ≤ j
-        further n = omega arith
 
 every-all : (t : ℕ → Bool) (m k : ℕ) → ((j : ℕ) → k ≤ j → j < k + m → t j ≡ true) → every t m k ≡ true
 unfolding every
@@ -86,10 +73,10 @@ module _ (p : Problem) where
       place = ltb x (p .roads .size)
 
       stop : is-stop p x ≡ true
-      stop = both (both-left place _ h) (both-left (not (eqb x (depot p))) _ (both-right place _ h))
+      stop = both (and-first place _ h) (and-first (not (eqb x (depot p))) _ (and-second place _ h))
 
       new : any (eqb x) xs ≡ false
-      new = not-true (any (eqb x) xs) (both-right (not (eqb x (depot p))) (not (any (eqb x) xs)) (both-right place _ h))
+      new = not-true (any (eqb x) xs) (and-second (not (eqb x (depot p))) (not (any (eqb x) xs)) (and-second place _ h))
 
       counted : (c : ℕ) (b : Bool) → eqb c x ≡ b → count c (xs ++ x ∷ []) ≡ count c xs + (one-if b + 0)
       counted c b e = count-append c xs (x ∷ []) ∙ ap (λ (t : Bool). count c xs + (one-if t + 0)) e
@@ -108,7 +95,7 @@ module _ (p : Problem) where
     distinct-front h zero l = record { once = λ c. omega arith; good = λ c g. absurd (omega arith) }
     distinct-front h (suc i) l =
         rw (take-suc stops i 0 (omega arith)) (distinct-more (take i stops) (getD stops i 0) (distinct-front h i (omega arith))
-        (every-each (λ k. stop-passes p (take k stops) (getD stops k 0)) (length stops) 0 h i (omega arith) (omega arith)))
+        (every-at (λ k. stop-passes p (take k stops) (getD stops k 0)) (length stops) i h (omega arith)))
 
     pub stops-distinct : stops-pass p stops ≡ true → Distinct p stops
     stops-distinct h = rw (take-all (length stops) stops (le-refl (length stops))) at (distinct-front h (length stops) (le-refl (length stops)))
@@ -123,5 +110,5 @@ module _ (p : Problem) where
             let here : count c (drop j stops) ≡ 1 + count c (drop (suc j) stops) = ap (count c) (drop-cons stops j 0 l) ∙ ap (λ (b : Bool). one-if b + count c (drop (suc j) stops)) (eq-eqb c c refl) in
             let parts = count-parts c j stops in
             let g = d .good c (omega (arith, d .once c)) in
-            both (both-left (ltb c (p .roads .size)) (not (eqb c (depot p))) g)
-            (both (both-right (ltb c (p .roads .size)) (not (eqb c (depot p))) g) (ap not (count-absent c (take j stops) (omega (arith, d .once c)))))
+            both (and-first (ltb c (p .roads .size)) (not (eqb c (depot p))) g)
+            (both (and-second (ltb c (p .roads .size)) (not (eqb c (depot p))) g) (ap not (count-absent c (take j stops) (omega (arith, d .once c)))))

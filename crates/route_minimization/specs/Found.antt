@@ -14,19 +14,19 @@ use Rattle.laws.specs.Lists.{drop-take}
 use Rattle.laws.specs.Edits.{insert-at, erase}
 use Rattle.laws.specs.Counts.{one-if, count, count-append, count-parts, count-insert-at}
 use Rattle.laws.specs.Loops.{loop, cond-rule, loop-rule}
+use Rattle.laws.specs.Searches.{and-second}
 use Rattle.models.specs.Problem.{Problem, depot}
 use Rattle.plan.specs.Plan.{Plan, route, non-empty}
 use Rattle.local_search.specs.Options.{Each, each-or-else}
 use Rattle.local_search.specs.Route.{insertion-cost, Insertion}
 use Rattle.local_search.specs.Feasible.{constrained, has-room, feasible}
-use Rattle.local_search.specs.RouteLaws.{both-right}
 use Rattle.route_minimization.specs.Quick.{may-fit, Times, times}
 use Rattle.route_minimization.specs.Cheapest.{may-go-in, cheaper, try-position, try-positions, try-route, cheapest}
 use Rattle.route_minimization.specs.Eject.{kept, ejected, failure-sum, Ejection, fails-more, outranks, try-in-kept, try-kept, try-out, try-one, try-two, eject-one, eject-two, eject, into, gone}
 
 may-go-in-feasible : (p : Problem) (r : List ℕ) (t : Times) (pos c : ℕ) → may-go-in p r t pos c ≡ true → feasible p (insert-at pos c r) ≡ true
 unfolding may-go-in
-may-go-in-feasible p r t pos c h = both-right (not (constrained p) || may-fit (p .places) (p .roads) (depot p) r (t .departures) (t .latest) pos c) (feasible p (insert-at pos c r)) h
+may-go-in-feasible p r t pos c h = and-second (not (constrained p) || may-fit (p .places) (p .roads) (depot p) r (t .departures) (t .latest) pos c) (feasible p (insert-at pos c r)) h
 
 -- a route with a stop put in is not empty
 pub insert-non-empty : (pos c : ℕ) (r : List ℕ) → non-empty (insert-at pos c r) ≡ true

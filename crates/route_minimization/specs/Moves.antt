@@ -11,11 +11,11 @@ use lib.ListN.{length, getD, take, drop, set}
 use lib.Dec.{leb, ltb}
 use Rattle.laws.specs.All.{All}
 use Rattle.laws.specs.Loops.{cond-rule, loop-rule}
+use Rattle.laws.specs.Searches.{and-first, and-second}
 use Rattle.models.specs.Problem.{Problem}
 use Rattle.plan.specs.Plan.{Plan, route, exchange-stops, exchange-tails, non-empty, occurs}
 use Rattle.plan.specs.Exchanges.{length-exchange-stops, all-exchange-stops, occurs-exchange-stops, first-exchange-stops, second-exchange-stops, length-exchange-tails, all-exchange-tails, occurs-exchange-tails, first-exchange-tails, second-exchange-tails}
 use Rattle.local_search.specs.Feasible.{feasible}
-use Rattle.local_search.specs.RouteLaws.{both-left, both-right}
 use Rattle.route_minimization.specs.Perturb.{word, draw, draw-bool, stands, both-non-empty, try-exchange, try-tails, try-move, Drawn, move-between, other-than, move, perturb}
 
 -- ---- what a move keeps
@@ -95,10 +95,10 @@ module _ (p : Problem) (G : List ℕ → Type 0) (pass : (r : List ℕ) → feas
         number = length-exchange-stops a i b j routes;
         places = λ c. occurs-exchange-stops a i b j routes (w .apart) c (w .first-in) (w .second-in) hi hj;
         kinds = λ g. all-exchange-stops a i b j routes
-            (pass (set (route a routes) i (getD (route b routes) j 0)) (subst (λ (r : List ℕ). feasible p r ≡ true) (first-exchange-stops a i b j routes (w .apart) (w .first-in) (w .second-in)) (both-left (feasible p (route a x)) (feasible p (route b x)) e))
-            (set-non-empty (route a routes) i (getD (route b routes) j 0) (both-left (non-empty (route a routes)) (non-empty (route b routes)) (w .full))))
-            (pass (set (route b routes) j (getD (route a routes) i 0)) (subst (λ (r : List ℕ). feasible p r ≡ true) (second-exchange-stops a i b j routes (w .apart) (w .first-in) (w .second-in)) (both-right (feasible p (route a x)) (feasible p (route b x)) e))
-            (set-non-empty (route b routes) j (getD (route a routes) i 0) (both-right (non-empty (route a routes)) (non-empty (route b routes)) (w .full))))
+            (pass (set (route a routes) i (getD (route b routes) j 0)) (subst (λ (r : List ℕ). feasible p r ≡ true) (first-exchange-stops a i b j routes (w .apart) (w .first-in) (w .second-in)) (and-first (feasible p (route a x)) (feasible p (route b x)) e))
+            (set-non-empty (route a routes) i (getD (route b routes) j 0) (and-first (non-empty (route a routes)) (non-empty (route b routes)) (w .full))))
+            (pass (set (route b routes) j (getD (route a routes) i 0)) (subst (λ (r : List ℕ). feasible p r ≡ true) (second-exchange-stops a i b j routes (w .apart) (w .first-in) (w .second-in)) (and-second (feasible p (route a x)) (feasible p (route b x)) e))
+            (set-non-empty (route b routes) j (getD (route a routes) i 0) (and-second (non-empty (route a routes)) (non-empty (route b routes)) (w .full))))
             g;
       })) (λ _. here)
 
@@ -112,10 +112,10 @@ module _ (p : Problem) (G : List ℕ → Type 0) (pass : (r : List ℕ) → feas
         number = length-exchange-tails a i b j routes;
         places = λ c. occurs-exchange-tails a i b j routes (w .apart) c (w .first-in) (w .second-in);
         kinds = λ g. all-exchange-tails a i b j routes
-            (pass ra (subst (λ (r : List ℕ). feasible p r ≡ true) (first-exchange-tails a i b j routes (w .apart) (w .first-in) (w .second-in)) (both-left (feasible p (route a x)) (feasible p (route b x)) e))
-            (subst (λ (r : List ℕ). non-empty r ≡ true) (first-exchange-tails a i b j routes (w .apart) (w .first-in) (w .second-in)) (both-left (non-empty (route a x)) (non-empty (route b x)) f)))
-            (pass rb (subst (λ (r : List ℕ). feasible p r ≡ true) (second-exchange-tails a i b j routes (w .apart) (w .first-in) (w .second-in)) (both-right (feasible p (route a x)) (feasible p (route b x)) e))
-            (subst (λ (r : List ℕ). non-empty r ≡ true) (second-exchange-tails a i b j routes (w .apart) (w .first-in) (w .second-in)) (both-right (non-empty (route a x)) (non-empty (route b x)) f)))
+            (pass ra (subst (λ (r : List ℕ). feasible p r ≡ true) (first-exchange-tails a i b j routes (w .apart) (w .first-in) (w .second-in)) (and-first (feasible p (route a x)) (feasible p (route b x)) e))
+            (subst (λ (r : List ℕ). non-empty r ≡ true) (first-exchange-tails a i b j routes (w .apart) (w .first-in) (w .second-in)) (and-first (non-empty (route a x)) (non-empty (route b x)) f)))
+            (pass rb (subst (λ (r : List ℕ). feasible p r ≡ true) (second-exchange-tails a i b j routes (w .apart) (w .first-in) (w .second-in)) (and-second (feasible p (route a x)) (feasible p (route b x)) e))
+            (subst (λ (r : List ℕ). non-empty r ≡ true) (second-exchange-tails a i b j routes (w .apart) (w .first-in) (w .second-in)) (and-second (non-empty (route a x)) (non-empty (route b x)) f)))
             g;
       })) (λ _. here)) (λ _. here)
 
@@ -126,8 +126,8 @@ module _ (p : Problem) (G : List ℕ → Type 0) (pass : (r : List ℕ) → feas
       let n = length (route b routes) in
       cond-rule Q (draw-bool tape (d + 2))
       (λ _. exchange-keeps (draw tape (d + 3) m) (draw tape (d + 4) n)
-      (draw-in tape (d + 3) m (non-empty-length (route a routes) (both-left (non-empty (route a routes)) (non-empty (route b routes)) (w .full))))
-      (draw-in tape (d + 4) n (non-empty-length (route b routes) (both-right (non-empty (route a routes)) (non-empty (route b routes)) (w .full)))))
+      (draw-in tape (d + 3) m (non-empty-length (route a routes) (and-first (non-empty (route a routes)) (non-empty (route b routes)) (w .full))))
+      (draw-in tape (d + 4) n (non-empty-length (route b routes) (and-second (non-empty (route a routes)) (non-empty (route b routes)) (w .full)))))
       (λ _. tails-keeps (draw tape (d + 3) (suc m)) (draw tape (d + 4) (suc n)))
 
 -- What each move that stands keeps, the perturbation keeps.
