@@ -1,7 +1,8 @@
 -- The load and the check of a route: whether it is feasible. Assumes nothing.
 use Prim.Native.Nat.{ℕ}
 use mathlib.Core.List.{List}
-use mathlib.Core.Bool.{Bool, not, _&&_, _||_}
+use mathlib.Core.Path.{_≡_}
+use mathlib.Core.Bool.{Bool, true, not, _&&_, _||_}
 use lib.ListN.{getD}
 use lib.IntN.{ℤ, pos, _+ℤ_}
 use lib.Signed.{leZ}
@@ -44,3 +45,8 @@ checked p route = not (constrained p) || passes p route
 -- Pool::feasible
 unfoldable pub feasible : Problem → List ℕ → Bool
 feasible p route = fits p (load (p .demand) route) && checked p route
+
+-- a route "within capacity" that "passes the check"
+pub record Sound (p : Problem) (route : List ℕ) : Type 0 where
+  pub within-capacity : fits p (load (p .demand) route) ≡ true
+  pub passes-check : passes p route ≡ true

@@ -46,3 +46,7 @@ each-bind P Q (some a) f step h = step a h
 pub each-both : {A : Type 0} (P Q : A → Type 0) (o : Option A) → Each P o → Each Q o → Each (λ a. P a × Q a) o
 each-both P Q none h k = tt
 each-both P Q (some a) h k = (h, k)
+
+pub each-map : {A : Type 0} (P Q : A → Type 0) (o : Option A) → ((a : A) → P a → Q a) → Each P o → Each Q o
+each-map P Q none f h = tt
+each-map P Q (some a) f h = f a h

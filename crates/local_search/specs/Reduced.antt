@@ -8,14 +8,14 @@ use mathlib.Core.Option.{Option, none, some}
 use native.Mathlib.Omega.{arith}
 use native.Mathlib.Nat.{le-refl, suc-mul, mul-add, mul-comm, mul-le-mul-right}
 use lib.ListN.{length, length-map}
-use Rattle.laws.specs.All.{All, all-nil, all-cons}
-use Rattle.laws.specs.Keeps.{keep, length-keep, all-keep}
-use Rattle.laws.specs.Sorts.{all-range, all-sort-by, length-range, length-sort-by}
+use Rattle.laws.specs.All.{All, all-cons}
+use Rattle.laws.specs.Keeps.{length-keep, all-keep}
+use Rattle.laws.specs.Sorts.{range, smallest, sort-by, all-range, all-sort-by, length-range, length-sort-by}
 use Rattle.plan.specs.Plan.{Plan, lengths-of, non-empty, drop-empty, occurs}
 use Rattle.plan.specs.Order.{order}
 use Rattle.plan.specs.Dropped.{occurs-drop-empty}
 use Rattle.local_search.specs.Options.{Each, each-found}
-use Rattle.local_search.specs.Rounds.{Counts, Tried, Result, Attempt, try-each, try-all, rounds, reduce}
+use Rattle.local_search.specs.Rounds.{Counts, Tried, Result, Attempt, try-each, try-all, or-end, rounds, reduce}
 use Rattle.local_search.specs.RoundRules.{try-rule, rounds-rule}
 
 -- what an accepted attempt makes of a plan: a route fewer, the same places, each route of the kind G
@@ -71,6 +71,26 @@ round-has attempt P routes each n =
     (λ r rs n i _. tail-of i)
     (λ r rs n x i e. subst (Each P) e (each r n (head-of i)))
     (order (lengths-of routes)) n (order-inside routes)
+
+-- Where each accepted attempt leaves fewer routes, as many rounds as routes are enough: one more changes nothing.
+pub rounds-enough : (attempt : Attempt)
+    → ((routes : Plan) (r : ℕ) (n : Counts) → r < length routes → Each (λ x. length x < length routes) (attempt routes r n .plan))
+    → (left : ℕ) (routes : Plan) (n : Counts) → length routes ≤ left → rounds attempt (suc left) routes n ≡ rounds attempt left routes n
+unfolding rounds or-end try-each range sort-by smallest
+rounds-enough attempt fewer zero [] n h = refl
+rounds-enough attempt fewer zero (r ∷ routes) n h = absurd (omega arith)
+rounds-enough attempt fewer (suc left) routes n h =
+    go (t .plan) refl (λ plan g. rounds-enough attempt fewer left plan (t .counts) g)
+  where
+    t : Tried
+    t = try-all attempt routes n
+
+    go : (o : Option Plan) → t .plan ≡ o → ((plan : Plan) → length plan ≤ left → rounds attempt (suc left) plan (t .counts) ≡ rounds attempt left plan (t .counts))
+        → or-end (λ plan m. rounds attempt (suc left) plan m) routes o (t .counts) ≡ or-end (λ plan m. rounds attempt left plan m) routes o (t .counts)
+    go none e rest = refl
+    go (some x) e rest =
+        let y = each-found (λ z. length z < length routes) (t .plan) e (round-has attempt (λ z. length z < length routes) routes (fewer routes) n) in
+        rest (drop-empty x) (omega (arith, length-keep non-empty x))
 
 -- m bounds the steps of one attempt, and G is what the routes given have and every route that an attempt makes
 module _ (attempt : Attempt) (m : ℕ) (G : List ℕ → Type 0)

@@ -1,9 +1,9 @@
 -- Laws of one route: the load of a route with a stop put in, the check where it is not needed, what a feasible route keeps; and the cost of a
 -- plan is an f64. Assumes nothing.
-use Prim.Native.Nat.{ℕ, suc}
-use mathlib.Core.Path.{_≡_, refl, sym, ap, subst, _∙_}
+use Prim.Native.Nat.{ℕ}
+use mathlib.Core.Path.{_≡_, refl, sym, ap, _∙_}
 use mathlib.Core.List.{List, [], _∷_, _++_}
-use mathlib.Core.Bool.{Bool, true, false, cond, not, _&&_, _||_, true≢false, false≢true}
+use mathlib.Core.Bool.{Bool, true, false, not, _&&_, _||_, true≢false, false≢true}
 use lib.ListN.{getD, take, drop, take-append-drop}
 use lib.IntN.{ℤ, pos as nonneg, _+ℤ_, +ℤ-idl, +ℤ-idr, +ℤ-assoc, +ℤ-comm}
 use lib.Dec.{T}
@@ -19,7 +19,7 @@ use Rattle.models.specs.Problem.{Problem, depot}
 use Rattle.plan.specs.Plan.{Plan}
 use Rattle.evaluation_laws.proofs.Agreement.{unneeded-passes}
 use Rattle.local_search.specs.Route.{route-distance, cost}
-use Rattle.local_search.specs.Feasible.{demand-at, load, fits, has-room, constrained, passes, checked, feasible}
+use Rattle.local_search.specs.Feasible.{Sound, demand-at, load, fits, has-room, constrained, passes, checked, feasible}
 
 -- ---- loads
 
@@ -66,10 +66,6 @@ pub unneeded : (p : Problem) (r : List ℕ) → constrained p ≡ false → pass
 unneeded p r e = unneeded-passes (p .places) (p .roads) (depot p) (limits-of (p .vehicle)) r e
 
 -- ---- what a feasible route keeps: "within capacity and passes the check"
-
-pub record Sound (p : Problem) (r : List ℕ) : Type 0 where
-  pub within-capacity : fits p (load (p .demand) r) ≡ true
-  pub passes-check : passes p r ≡ true
 
 checked-passes : (p : Problem) (r : List ℕ) → checked p r ≡ true → passes p r ≡ true
 checked-passes p r h = go (constrained p) refl h

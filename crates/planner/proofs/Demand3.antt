@@ -1,38 +1,36 @@
 -- Demand 3: for every problem, first slices and list of calls, the claim holds of the replies. The idea: `Reached` holds of the first slices and
 -- is kept by every call, accepted or refused; what a call adds to the steps is bounded by its own limit and the first plan's routes.
 -- Assumes nothing.
-use Prim.Native.Nat.{ℕ, zero, suc, _+_, _*_, _-_, _/_, _≤_, _<_}
+use Prim.Native.Nat.{ℕ, zero, suc, _+_, _*_, _-_, _/_, _≤_}
 use mathlib.Core.Path.{_≡_, refl, sym, ap, subst, _∙_}
 use mathlib.Core.Logic.{_⊎_, inl, inr}
-use mathlib.Core.Bool.{Bool, true, false, false≢true}
-use mathlib.Core.List.{List, [], _∷_, _++_, List·Memᴰ, List·Memᴰ·head, List·Memᴰ·tail}
+use mathlib.Core.Bool.{true, false≢true}
+use mathlib.Core.List.{List, [], _∷_, List·Memᴰ, List·Memᴰ·head, List·Memᴰ·tail}
 use mathlib.Core.Option.{Option, none, some}
-use native.Mathlib.Nat.{le-refl, le-trans, mul-le-mul-left, add-mul, mul-comm, mul-div-cancel, zero-mul}
+use native.Mathlib.Nat.{le-refl, le-trans, mul-le-mul-left, add-mul, mul-comm, mul-div-cancel}
 use native.Mathlib.Omega.{arith}
 use lib.ListN.{length, replicate, length-map}
-use lib.Ieee.{lt}
-use Rattle.laws.specs.All.{All, all-nil, all-cons, all-append, all-map}
-use Rattle.laws.specs.Keeps.{keep, keep-passes, all-keep}
+use Rattle.laws.specs.All.{All, all-nil, all-cons, all-append}
+use Rattle.laws.specs.Keeps.{keep-passes, all-keep}
 use Rattle.laws.specs.Counts.{count}
 use Rattle.models.specs.Problem.{Problem}
-use Rattle.plan.specs.Plan.{Plan, Slices, split, flat, lengths-of, total, padded, written, non-empty, drop-empty, occurs}
+use Rattle.plan.specs.Plan.{Plan, Slices, flat, lengths-of, padded, written, non-empty, drop-empty, occurs}
 use Rattle.plan.specs.Slices.{length-split, flat-split-all}
 use Rattle.plan.specs.Dropped.{length-padded, drop-empty-padded, split-written, total-written}
-use Rattle.local_search.specs.Route.{cost}
-use Rattle.local_search.specs.Feasible.{feasible}
-use Rattle.local_search.specs.RouteLaws.{Sound, feasible-sound}
-use Rattle.local_search.specs.Rounds.{Counts, Result}
-use Rattle.local_search.specs.Reduced.{Bounded, triangle, triangle-is, triangle-mono}
+use Rattle.local_search.specs.Feasible.{Sound}
+use Rattle.local_search.specs.RouteLaws.{feasible-sound}
+use Rattle.local_search.specs.Rounds.{Result}
+use Rattle.local_search.specs.Reduced.{triangle, triangle-is, triangle-mono}
 use Rattle.route_minimization.specs.Minimize.{Allowance, minimize-routes}
 use Rattle.route_minimization.specs.Minimized.{Minimized, minimize-keeps}
 use Rattle.route_minimization.specs.Falls.{minimize-falls}
 use Rattle.route_elimination.specs.Eliminate.{eliminate-routes}
 use Rattle.route_elimination.specs.Eliminated.{Eliminated, eliminate-keeps}
-use Rattle.planner.specs.Table.{Work, refusal, stops-pass}
-use Rattle.planner.specs.Calls.{Answer, refused, answered, Done, Reply, plan-in, reply, minimise-inputs, eliminate-inputs, public-minimise, public-eliminate}
+use Rattle.planner.specs.Table.{Work, refusal}
+use Rattle.planner.specs.Calls.{refused, Reply, plan-in, reply, minimise-inputs, eliminate-inputs, public-minimise, public-eliminate}
 use Rattle.planner.specs.Run.{Call, minimise, eliminate, call, run, entry, counts-of, steps, draws, granted, limits, routes-in, Along, along-nil, along-cons, Cheaper, Kept, Demand, Claim}
-use Rattle.planner.proofs.StopsLaws.{Distinct, distinct-same, stops-distinct, distinct-stops}
-use Rattle.planner.proofs.EntryLaws.{entry-first, Entered, entered, enter}
+use Rattle.planner.proofs.StopsLaws.{distinct-same, stops-distinct, distinct-stops}
+use Rattle.planner.proofs.EntryLaws.{entry-first, entered, enter}
 
 -- ---- the slices that a call leaves
 

@@ -1,11 +1,10 @@
 -- The entry checks come first: what the problem and the plan alone are refused with, every call on them is refused with; and where they are
 -- accepted, a call is refused only by its own rows. Assumes nothing.
 use Prim.Native.Nat.{ℕ, _≤_}
-use mathlib.Core.Path.{_≡_, refl, sym, ap, _∙_}
-use mathlib.Core.Bool.{Bool, true, false, cond, not, _&&_, _||_}
-use mathlib.Core.List.{List, [], _∷_}
+use mathlib.Core.Path.{_≡_, refl, ap}
+use mathlib.Core.Bool.{Bool, true, false, cond, not, _||_}
+use mathlib.Core.List.{List}
 use mathlib.Core.Option.{Option, none, some}
-use native.Mathlib.Omega.{arith}
 use borrow.Author.Tests.{ltb-false, le-ltb, eqb-true, eq-eqb}
 use lib.ListN.{length, drop}
 use lib.Dec.{eqb, ltb}
@@ -15,7 +14,7 @@ use Rattle.models.specs.Valid.{sizes-pass, values-pass, windows-pass, depot-pas
 use Rattle.plan.specs.Plan.{Slices, total}
 use Rattle.planner.specs.Table.{Work, Inputs, bad-lengths, stops-pass, table, first-applying, refusal}
 use Rattle.planner.specs.Run.{entry}
-use Rattle.planner.proofs.StopsLaws.{both, not-true}
+use Rattle.planner.proofs.StopsLaws.{both}
 
 -- the inputs of a call on a plan, whatever else it is given
 abbrev pub call-inputs : Problem → Slices → Option (List ℕ) → Option ℕ → Option Work → Inputs

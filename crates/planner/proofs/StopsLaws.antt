@@ -1,17 +1,17 @@
 -- Row 6: stops pass exactly if each occurs once and is a place other than the depot. So what passes does not depend on the order of the stops.
 -- Assumes nothing.
 use Prim.Native.Nat.{ℕ, zero, suc, _+_, _≤_, _<_}
-use mathlib.Core.Path.{_≡_, refl, sym, ap, subst, _∙_}
+use mathlib.Core.Path.{_≡_, refl, ap, _∙_}
 use mathlib.Core.Bool.{Bool, true, false, not, _&&_, _||_, true≢false, false≢true}
 use mathlib.Core.List.{List, [], _∷_, _++_}
 use native.Mathlib.Nat.{le-refl}
 use native.Mathlib.Omega.{arith}
-use borrow.Author.Tests.{eqb-true, eqb-false, eq-eqb}
+use borrow.Author.Tests.{eqb-true, eq-eqb}
 use lib.ListN.{length, getD, take, drop}
 use lib.Seq.{take-suc, take-all, drop-cons}
 use lib.Dec.{eqb, ltb}
 use Rattle.laws.specs.Counts.{one-if, count, count-append, count-parts}
-use Rattle.laws.specs.Searches.{any, every, and-first, and-second}
+use Rattle.laws.specs.Searches.{any, every, and-first, and-second, every-at}
 use Rattle.models.specs.Problem.{Problem, depot}
 use Rattle.planner.specs.Table.{stop-passes, stops-pass}
 
@@ -23,18 +23,6 @@ not-true true e = absurd (false≢true e)
 not-true false e = refl
 
 -- ---- `every`, number by number
-
-every-each : (t : ℕ → Bool) (m k : ℕ) → every t m k ≡ true → (j : ℕ) → k ≤ j → j < k + m → t j ≡ true
-unfolding every
-every-each t zero k h j a b = absurd (omega arith)
-every-each t (suc m) k h j a b = go (eqb k j) refl (λ c d. every-each t m (suc k) (and-second (t k) (every t m (suc k)) h) j c d)
-  where
-    go : (u : Bool) → eqb k j ≡ u → (suc k ≤ j → j < suc k + m → t j ≡ true) → t j ≡ true
-    go true e rest = rw (← eqb-true k j e) (and-first (t k) (every t m (suc k)) h)
-    go false e rest = rest (further (eqb-false k j e)) (omega arith)
-      where
-        further : (k ≡ j → ⊥) → suc k ≤ j
-        further n = omega arith
 
 every-all : (t : ℕ → Bool) (m k : ℕ) → ((j : ℕ) → k ≤ j → j < k + m → t j ≡ true) → every t m k ≡ true
 unfolding every
@@ -107,7 +95,7 @@ module _ (p : Problem) where
     distinct-front h zero l = record { once = λ c. omega arith; good = λ c g. absurd (omega arith) }
     distinct-front h (suc i) l =
         rw (take-suc stops i 0 (omega arith)) (distinct-more (take i stops) (getD stops i 0) (distinct-front h i (omega arith))
-        (every-each (λ k. stop-passes p (take k stops) (getD stops k 0)) (length stops) 0 h i (omega arith) (omega arith)))
+        (every-at (λ k. stop-passes p (take k stops) (getD stops k 0)) (length stops) i h (omega arith)))
 
     pub stops-distinct : stops-pass p stops ≡ true → Distinct p stops
     stops-distinct h = rw (take-all (length stops) stops (le-refl (length stops))) at (distinct-front h (length stops) (le-refl (length stops)))

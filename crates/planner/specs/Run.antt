@@ -1,7 +1,7 @@
 -- Lists of calls over one problem, and what is claimed of every one of them ("Lists of calls"; demand 3). Assumes nothing.
-use Prim.Native.Nat.{ℕ, _+_, _-_, _*_, _/_, _≤_, _<_}
+use Prim.Native.Nat.{ℕ, _+_, _*_, _/_, _≤_, _<_}
 use mathlib.Core.Path.{_≡_}
-use mathlib.Core.Bool.{Bool, true, false}
+use mathlib.Core.Bool.{true}
 use mathlib.Core.List.{List, [], _∷_, List·Memᴰ}
 use mathlib.Core.Logic.{_⊎_}
 use mathlib.Core.Option.{Option, none, some}
@@ -11,7 +11,7 @@ use Rattle.laws.specs.All.{All}
 use Rattle.models.specs.Problem.{Problem}
 use Rattle.plan.specs.Plan.{Plan, Slices, drop-empty, occurs}
 use Rattle.local_search.specs.Route.{cost}
-use Rattle.local_search.specs.RouteLaws.{Sound}
+use Rattle.local_search.specs.Feasible.{Sound}
 use Rattle.local_search.specs.Rounds.{Counts}
 use Rattle.route_minimization.specs.Minimize.{Allowance}
 use Rattle.planner.specs.Table.{Work, Inputs, refusal}

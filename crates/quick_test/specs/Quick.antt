@@ -17,7 +17,7 @@ use Rattle.models.specs.Problem.{DistanceMatrix, Problem, depot}
 use Rattle.distance.specs.Matrix.{travel-time}
 use Rattle.evaluation.specs.declared.check.Left.{Left}
 use Rattle.evaluation.specs.declared.check.Left.the-variants.{Missed, At as LeftAt}
-use Rattle.local_search.specs.Route.{prev-stop, next-stop}
+use Rattle.local_search.specs.Route.{prev-stop}
 use Rattle.local_search.specs.Feasible.{constrained}
 
 -- ---- forward

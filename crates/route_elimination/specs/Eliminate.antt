@@ -2,7 +2,7 @@
 -- Assumes nothing.
 use Prim.Native.Nat.{ℕ, suc}
 use mathlib.Core.List.{List, [], _∷_, map, flatMap}
-use mathlib.Core.Bool.{Bool, cond, not, _&&_, _||_}
+use mathlib.Core.Bool.{Bool, cond, not, _||_}
 use mathlib.Core.Option.{Option, none, some}
 use lib.ListN.{length}
 use lib.Signed.{ltZ}
@@ -21,7 +21,7 @@ use Rattle.plan.specs.Plan.{Plan, route, put-in}
 use Rattle.local_search.specs.Options.{bind, then-some}
 use Rattle.local_search.specs.Route.{route-distance, gain-floor, insertion-cost, Insertion}
 use Rattle.local_search.specs.Feasible.{demand-at, has-room, checked}
-use Rattle.local_search.specs.Rounds.{Counts, Tried, Result, reduce}
+use Rattle.local_search.specs.Rounds.{Counts, Tried, reduce}
 
 -- ---- what a route is worth, and what an insertion costs
 

@@ -1,32 +1,32 @@
 -- What an attempt to move the stops of a route keeps, and what the search keeps: every place occurs as often as before, every route is of a kind
 -- that the given routes and every feasible route have, and there are no more routes. Assumes nothing.
 use Prim.Native.Nat.{ℕ, suc, _+_, _*_, _≤_, _<_}
-use mathlib.Core.Path.{_≡_, refl, sym, ap, subst, _∙_}
-use mathlib.Core.Bool.{Bool, true, false, cond, not, _&&_, _||_}
-use mathlib.Core.List.{List, [], _∷_, _++_, map, flatMap}
-use mathlib.Core.Option.{Option, none, some}
+use mathlib.Core.Path.{_≡_, ap, _∙_}
+use mathlib.Core.Bool.{true}
+use mathlib.Core.List.{List, [], _∷_, map, flatMap}
+use mathlib.Core.Option.{Option, some}
 use native.Mathlib.Omega.{arith}
 use lib.ListN.{length}
-use lib.Ieee.{Float, lt, le}
-use Rattle.floats.specs.Binary64.{_⊕_, _⊖_, 0f, is-finite}
-use Rattle.laws.specs.All.{All, all-nil, all-cons, all-append}
-use Rattle.laws.specs.Edits.{insert-at, erase, length-erase, all-erase}
-use Rattle.laws.specs.Keeps.{keep, length-keep, all-keep}
-use Rattle.laws.specs.Counts.{count, count-insert-at}
+use lib.Ieee.{Float, le}
+use Rattle.floats.specs.Binary64.{_⊕_, 0f, is-finite}
+use Rattle.laws.specs.All.{All, all-of, all-nil, all-cons, all-append}
+use Rattle.laws.specs.Edits.{erase, length-erase, all-erase}
+use Rattle.laws.specs.Keeps.{length-keep, all-keep}
+use Rattle.laws.specs.Counts.{count}
 use Rattle.laws.specs.Loops.{foldl, cond-rule}
 use Rattle.laws.specs.Sorts.{range, all-range, all-sort-by, count-sort-by}
 use Rattle.models.specs.Vehicle.{fixed-cost-in-distance}
 use Rattle.models.specs.Problem.{Problem}
-use Rattle.plan.specs.Plan.{Plan, route, put-in, non-empty, drop-empty, occurs}
+use Rattle.plan.specs.Plan.{Plan, route, non-empty, drop-empty, occurs}
 use Rattle.plan.specs.Routes.{length-put-in, occurs-put-in, all-put-in, occurs-erase}
 use Rattle.plan.specs.Dropped.{occurs-drop-empty}
-use Rattle.local_search.specs.Options.{bind, then-some, Each, each-then-some, each-bind}
-use Rattle.local_search.specs.Route.{gain-floor, Insertion}
-use Rattle.local_search.specs.Feasible.{load, fits, has-room, checked, feasible}
+use Rattle.local_search.specs.Options.{bind, Each, each-then-some, each-bind, each-map}
+use Rattle.local_search.specs.Route.{Insertion}
+use Rattle.local_search.specs.Feasible.{has-room, checked, feasible}
 use Rattle.local_search.specs.RouteLaws.{has-room-fits}
-use Rattle.local_search.specs.Rounds.{Counts, Tried, Result, reduce}
+use Rattle.local_search.specs.Rounds.{Counts, reduce}
 use Rattle.local_search.specs.Reduced.{Better, Bounded, triangle, Ended, reduce-ended}
-use Rattle.route_elimination.specs.Eliminate.{soft, worth, insertion-worth, positions, candidates-in, candidates, nowhere, by-cost, trial, first-passing, Moved, move-to, move-stop, moving, move-all, if-gained, without-route, attempt, eliminate-routes}
+use Rattle.route_elimination.specs.Eliminate.{worth, positions, candidates-in, candidates, nowhere, trial, first-passing, Moved, move-to, move-stop, moving, move-all, if-gained, without-route, attempt, eliminate-routes}
 
 -- ---- properties of lists that are made of others
 
@@ -121,6 +121,13 @@ module _ (p : Problem) (G : List ℕ → Type 0) (pass : (r : List ℕ) → feas
         kinds = all-erase r g;
       })))
       (λ _. tt)
+
+-- an accepted attempt leaves fewer routes, so `rounds-enough` speaks of this search: the bound on the rounds never cuts it short
+pub attempt-fewer : (p : Problem) (routes : Plan) (r : ℕ) (n : Counts) → r < length routes → Each (λ x. length x < length routes) (attempt p routes r n .plan)
+unfolding attempt
+attempt-fewer p routes r n r-in =
+    each-map (Better (λ q. Unit) routes) (λ x. length x < length routes) (without-route p routes r) (λ x b. omega (arith, b .fewer))
+    (without-better p (λ q. Unit) (λ q _. tt) routes r r-in (all-of routes [] (λ i h. tt)))
 
 -- ---- the search
 

@@ -5,3 +5,5 @@ pub mod Eliminate
 pub mod Eliminated
 -- every definition, opened for theorems by computation
 pub mod Opened
+-- the definitions computed on small plans
+pub mod Examples

@@ -5,9 +5,9 @@ use mathlib.Core.Bool.{true, false}
 use mathlib.Core.List.{List, [], _∷_}
 use mathlib.Core.Option.{some}
 use lib.ListN.{replicate}
-use lib.IntN.{ℤ, pos}
+use lib.IntN.{pos}
 use lib.Ieee.{Float, binary64, ofBits, ofInt}
-use Rattle.floats.specs.Binary64.{0f, -∞}
+use Rattle.floats.specs.Binary64.{+∞, -∞}
 use Rattle.models.specs.declared.vehicle.Limit.{Limit}
 use Rattle.models.specs.declared.vehicle.Limit.the-variants.{None as NoLimit, At as LimitAt}
 use Rattle.models.specs.declared.vehicle.Rest.the-variants.{None as NoRest}
@@ -15,10 +15,10 @@ use Rattle.models.specs.declared.vehicle.Vehicle.{Vehicle}
 use Rattle.models.specs.Problem.{Problem, problem}
 use Rattle.plan.specs.Plan.{Plan}
 use Rattle.local_search.specs.Feasible.{feasible}
-use Rattle.local_search.specs.Rounds.{Counts, Tried, Result}
+use Rattle.local_search.specs.Rounds.{Counts}
 use Rattle.quick_test.specs.Quick.{departures, latest-arrivals, may-fit}
-use Rattle.route_minimization.specs.Perturb.{Drawn, move}
-use Rattle.route_minimization.specs.Minimize.{Allowance, State, Turn, more, turn, empty-into, minimize-routes}
+use Rattle.route_minimization.specs.Perturb.{move}
+use Rattle.route_minimization.specs.Minimize.{Allowance, more, turn, empty-into, minimize-routes}
 use Rattle.route_minimization.specs.Opened.{opened}
 
 abbrev num : ℕ → Float

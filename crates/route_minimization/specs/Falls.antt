@@ -1,20 +1,19 @@
 -- The cost falls: an accepted attempt leaves a plan that costs less, so the search leaves the plan's non-empty routes as they were or a plan that
 -- costs less than they do. Nothing is asked of the problem: the test of acceptance says so for every f64. Assumes nothing.
-use Prim.Native.Nat.{ℕ, suc, _<_}
-use mathlib.Core.Path.{_≡_, refl, sym, ap, subst, _∙_}
-use mathlib.Core.Bool.{Bool, true, false, cond}
-use mathlib.Core.List.{List, []}
+use Prim.Native.Nat.{ℕ, _<_}
+use mathlib.Core.Path.{_≡_, refl, ap, subst, _∙_}
+use mathlib.Core.Bool.{true}
+use mathlib.Core.List.{List}
 use mathlib.Core.Logic.{_⊎_, inl, inr, ⊎-elim}
 use mathlib.Core.Option.{Option, none, some}
 use native.Mathlib.Omega.{arith}
 use lib.ListN.{length}
-use lib.Ieee.{Float, lt}
-use Rattle.floats.specs.Binary64.{_⊖_, _⊗_, 1e-12, abs}
+use lib.Ieee.{lt}
 use Rattle.floats.specs.Order.{lt-lt-true}
 use Rattle.floats.specs.Gain.{accepted}
 use Rattle.laws.specs.All.{All}
 use Rattle.laws.specs.Edits.{erase}
-use Rattle.laws.specs.Keeps.{keep, keep-passes, keep-all, keep-twice}
+use Rattle.laws.specs.Keeps.{keep-passes, keep-all, keep-twice}
 use Rattle.laws.specs.Loops.{cond-rule}
 use Rattle.models.specs.Problem.{Problem}
 use Rattle.evaluation.specs.Check.{has-soft-windows}
@@ -22,7 +21,7 @@ use Rattle.plan.specs.Plan.{Plan, route, non-empty, drop-empty}
 use Rattle.local_search.specs.Options.{Each, each-found, each-then-some, each-bind, each-both}
 use Rattle.local_search.specs.Route.{cost}
 use Rattle.local_search.specs.RouteLaws.{cost-held}
-use Rattle.local_search.specs.Rounds.{Counts, Tried, Result, try-all, rounds, reduce}
+use Rattle.local_search.specs.Rounds.{Counts, Result, try-all, rounds, reduce}
 use Rattle.local_search.specs.RoundRules.{rounds-rule}
 use Rattle.local_search.specs.Reduced.{Better, round-has}
 use Rattle.route_minimization.specs.Minimize.{Allowance, empty-into, if-cheaper, attempt, minimize-routes}

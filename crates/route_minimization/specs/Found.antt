@@ -1,19 +1,20 @@
 -- What the searches of the pool find lies in the plan, and the route that it makes is feasible. Assumes nothing.
 use Prim.Native.Nat.{ℕ, zero, suc, _+_, _-_, _≤_, _<_}
-use mathlib.Core.Path.{_≡_, refl, sym, ap, _∙_}
-use mathlib.Core.Bool.{Bool, true, false, cond, not, _&&_, _||_}
+use mathlib.Core.Path.{_≡_, refl, ap, _∙_}
+use mathlib.Core.Bool.{Bool, true, false, cond, not, _||_}
 use mathlib.Core.List.{List, [], _∷_, _++_}
 use mathlib.Core.Option.{Option, none, some}
 use native.Mathlib.Nat.{le-refl}
 use native.Mathlib.Omega.{arith}
 use borrow.Author.Tests.{eqb-true, eqb-false}
 use lib.ListN.{length, getD, take, drop}
-use lib.Seq.{drop-cons, drop-drop}
+use lib.Seq.{drop-cons, drop-drop, take-take, take-append-le, drop-append-le, length-take-le}
 use lib.Dec.{eqb}
-use Rattle.laws.specs.Searches.{and-second}
-use Rattle.laws.specs.Edits.{insert-at}
+use Rattle.laws.specs.Lists.{drop-take}
+use Rattle.laws.specs.Edits.{insert-at, erase}
 use Rattle.laws.specs.Counts.{one-if, count, count-append, count-parts, count-insert-at}
 use Rattle.laws.specs.Loops.{loop, cond-rule, loop-rule}
+use Rattle.laws.specs.Searches.{and-second}
 use Rattle.models.specs.Problem.{Problem, depot}
 use Rattle.plan.specs.Plan.{Plan, route, non-empty}
 use Rattle.local_search.specs.Options.{Each, each-or-else}
@@ -96,6 +97,24 @@ kept-count x i j r h g = go (eqb i j) refl
       where
         strict : (i ≡ j → ⊥) → suc i ≤ j
         strict n = omega arith
+
+-- one stop taken out, or two, the later first: `filter(|(i, _)| !out.contains(i))`
+pub kept-one : (i : ℕ) (r : List ℕ) → kept i i r ≡ erase i r
+unfolding kept erase
+kept-one i r =
+    let none-between : i - suc i ≡ 0 = omega arith in
+    rw none-between
+
+pub kept-two : (i j : ℕ) (r : List ℕ) → i < j → j < length r → kept i j r ≡ erase i (erase j r)
+unfolding kept erase
+kept-two i j r h g =
+    let l : length (take j r) ≡ j = length-take-le j r (omega arith) in
+    rw (
+      take-append-le i (take j r) (drop (suc j) r) (omega arith),
+      take-take i j r (omega arith),
+      drop-append-le (suc i) (take j r) (drop (suc j) r) (omega arith),
+      drop-take (suc i) j r,
+    )
 
 pub record Ejects (p : Problem) (routes : Plan) (c : ℕ) (e : Ejection) : Type 0 where
   pub there : e .route < length routes

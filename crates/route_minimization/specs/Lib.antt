@@ -7,6 +7,8 @@ pub mod Eject
 pub mod Perturb
 -- the attempt to empty a route, and the search
 pub mod Minimize
+-- the clock needs no counter
+pub mod Clock
 -- what the searches find lies in the plan and is feasible
 pub mod Found
 -- what a move changes, and how much a perturbation draws

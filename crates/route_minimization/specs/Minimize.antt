@@ -5,7 +5,7 @@ use mathlib.Core.Bool.{cond}
 use mathlib.Core.Option.{Option, none, some}
 use lib.ListN.{getD, set, replicate}
 use lib.Dec.{leb}
-use lib.Ieee.{Float, lt, le}
+use lib.Ieee.{Float, lt}
 use Rattle.floats.specs.Binary64.{_⊖_, _⊗_, 1e-12, abs}
 use Rattle.laws.specs.Edits.{erase}
 use Rattle.models.specs.Problem.{Problem}
@@ -16,7 +16,7 @@ use Rattle.local_search.specs.Route.{Insertion, cost}
 use Rattle.local_search.specs.Rounds.{Counts, Tried, Result, reduce}
 use Rattle.route_minimization.specs.Cheapest.{cheapest}
 use Rattle.route_minimization.specs.Eject.{Ejection, eject, make-room, gone}
-use Rattle.route_minimization.specs.Perturb.{Drawn, perturb}
+use Rattle.route_minimization.specs.Perturb.{perturb}
 
 -- what a call may use: the step limit M, the clock's K, the draw tape
 pub record Allowance : Type 0 where

@@ -1,17 +1,18 @@
 -- What a random move may change: it leaves the number of routes and the places as they are, and the two routes that it makes are feasible and not
 -- empty; and how much a perturbation draws. Assumes nothing.
-use Prim.Native.Nat.{ℕ, zero, suc, _+_, _*_, _-_, _%_, _≤_, _<_}
-use mathlib.Core.Path.{_≡_, refl, sym, ap, subst, _∙_}
-use mathlib.Core.Bool.{Bool, true, false, cond, _&&_, false≢true}
+use Prim.Native.Nat.{ℕ, zero, suc, _+_, _*_, _-_, _≤_, _<_}
+use mathlib.Core.Path.{_≡_, refl, subst}
+use mathlib.Core.Bool.{true, cond, _&&_, false≢true}
 use mathlib.Core.List.{List, [], _∷_, _++_}
 use native.Mathlib.Nat.{le-refl, mod-lt}
 use native.Mathlib.Omega.{arith}
 use borrow.Author.Tests.{ltb-false, leb-true, leb-false}
-use lib.ListN.{length, getD, take, drop, set, length-set}
+use lib.ListN.{length, getD, take, drop, set}
 use lib.Dec.{leb, ltb}
 use Rattle.laws.specs.Searches.{and-first, and-second}
 use Rattle.laws.specs.All.{All}
-use Rattle.laws.specs.Loops.{loop, cond-rule, loop-rule}
+use Rattle.laws.specs.Loops.{cond-rule, loop-rule}
+use Rattle.laws.specs.Searches.{and-first, and-second}
 use Rattle.models.specs.Problem.{Problem}
 use Rattle.plan.specs.Plan.{Plan, route, exchange-stops, exchange-tails, non-empty, occurs}
 use Rattle.plan.specs.Exchanges.{length-exchange-stops, all-exchange-stops, occurs-exchange-stops, first-exchange-stops, second-exchange-stops, length-exchange-tails, all-exchange-tails, occurs-exchange-tails, first-exchange-tails, second-exchange-tails}
@@ -51,11 +52,38 @@ other-apart a b =
     cond-rule (λ (k : ℕ). a ≡ k → ⊥) (leb a b) {x = suc b} {y = b} (λ e q. omega (arith, leb-true a b e)) (λ e q. omega (arith, leb-false a b e))
 
 -- two different routes of the plan, neither of them empty
-record Between (routes : Plan) (a b : ℕ) : Type 0 where
-  first-in : a < length routes
-  second-in : b < length routes
-  apart : a ≡ b → ⊥
-  full : both-non-empty a b routes ≡ true
+pub record Between (routes : Plan) (a b : ℕ) : Type 0 where
+  pub first-in : a < length routes
+  pub second-in : b < length routes
+  pub apart : a ≡ b → ⊥
+  pub full : both-non-empty a b routes ≡ true
+
+-- ---- a move as the source makes it: the two new routes, tested and then put in place
+
+module _ (p : Problem) (routes : Plan) (a b : ℕ) (w : Between routes a b) (i j : ℕ) where
+  pub exchange-by-routes : (ra rb : List ℕ) → ra ≡ set (route a routes) i (getD (route b routes) j 0) → rb ≡ set (route b routes) j (getD (route a routes) i 0)
+      → try-exchange p a i b j routes ≡ cond (feasible p ra && feasible p rb) (set (set routes a ra) b rb) routes
+  unfolding try-exchange
+  exchange-by-routes ra rb ea eb =
+      rw (
+        first-exchange-stops a i b j routes (w .apart) (w .first-in) (w .second-in),
+        second-exchange-stops a i b j routes (w .apart) (w .first-in) (w .second-in),
+        ea,
+        eb,
+      ) (unfold exchange-stops in refl)
+
+  pub tails-by-routes : (ra rb : List ℕ) → ra ≡ take i (route a routes) ++ drop j (route b routes) → rb ≡ take j (route b routes) ++ drop i (route a routes)
+      → try-tails p a i b j routes ≡ cond (non-empty ra && non-empty rb) (cond (feasible p ra && feasible p rb) (set (set routes a ra) b rb) routes) routes
+  unfolding try-tails
+  tails-by-routes ra rb ea eb =
+      rw (
+        first-exchange-tails a i b j routes (w .apart) (w .first-in) (w .second-in),
+        second-exchange-tails a i b j routes (w .apart) (w .first-in) (w .second-in),
+        ea,
+        eb,
+      ) (unfold exchange-tails in refl)
+
+-- ---- what stands keeps
 
 module _ (p : Problem) (G : List ℕ → Type 0) (pass : (r : List ℕ) → feasible p r ≡ true → non-empty r ≡ true → G r)
     (Q : Plan → Type 0) (routes : Plan) (step : (x : Plan) → Moves G routes x → Q x) (here : Q routes)

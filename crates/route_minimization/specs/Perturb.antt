@@ -1,7 +1,7 @@
 -- The random moves after an ejection (route_minimization.rs, `Pool::perturb`), with document 01's stand-in for `Rng`. Assumes nothing.
 use Prim.Native.Nat.{ℕ, suc, _+_, _-_, _%_}
 use mathlib.Core.List.{List}
-use mathlib.Core.Bool.{Bool, true, false, cond, _&&_}
+use mathlib.Core.Bool.{Bool, cond, _&&_}
 use lib.ListN.{length, getD}
 use lib.Dec.{leb, ltb, eqb}
 use Rattle.laws.specs.Loops.{loop}

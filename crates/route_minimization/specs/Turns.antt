@@ -2,7 +2,6 @@
 -- end. Assumes nothing.
 use Prim.Native.Nat.{ℕ, zero, suc, _+_, _≤_}
 use mathlib.Core.Path.{_≡_, refl}
-use mathlib.Core.Bool.{true, false}
 use mathlib.Core.List.{List, [], _∷_, _++_, reverse}
 use mathlib.Core.Option.{Option, none, some}
 use native.Mathlib.Nat.{le-refl}
@@ -11,7 +10,7 @@ use lib.ListN.{getD, set}
 use lib.Dec.{leb}
 use Rattle.laws.specs.Loops.{cond-rule}
 use Rattle.models.specs.Problem.{Problem}
-use Rattle.plan.specs.Plan.{Plan, put-in}
+use Rattle.plan.specs.Plan.{put-in}
 use Rattle.local_search.specs.Route.{Insertion}
 use Rattle.local_search.specs.Rounds.{Counts, Tried}
 use Rattle.route_minimization.specs.Cheapest.{cheapest}
