@@ -235,7 +235,7 @@ fn stop_at(route: &[u16], pos: usize) -> usize
 }
 
 // The stop before `pos`, the depot at the front.
-fn stop_before(route: &[u16], pos: usize, depot: usize) -> usize
+fn prev_stop(depot: usize, route: &[u16], pos: usize) -> usize
     requires { ⌜ pos ≤ length (now route) ⌝ }
     ensures { λ r. ⌜ r ≡ prev-stop depot (now (route .entry)) pos ⌝ }
 {
@@ -294,7 +294,7 @@ pub fn may_fit(
         (take (length (now (route .entry))) (now (departures .entry))) (take (length (now (route .entry))) (now (latest .entry))) pos c ⌝ }
 {
     let before = left_before(departures, pos);
-    let prev = stop_before(route, pos, depot);
+    let prev = prev_stop(depot, route, pos);
     let done = leave(
         before,
         prev,

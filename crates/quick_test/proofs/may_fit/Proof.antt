@@ -7,8 +7,8 @@ use Rattle.quick_test.proofs.may_fit.Statement.{statement}
 left-before-requires : tie.Need-left-before-requires
 left-before-requires c κs = search needs
 
-stop-before-requires : tie.Need-stop-before-requires
-stop-before-requires c κs = search needs
+prev-stop-requires : tie.Need-prev-stop-requires
+prev-stop-requires c κs = search needs
 
 leave-requires : tie.Need-leave-requires
 leave-requires c κs = search (needs, before-there)
@@ -33,7 +33,7 @@ may-fit-spec =
     tie.close
     (tie.spec
     left-before-requires
-    stop-before-requires
+    prev-stop-requires
     leave-requires
     enum-known-done
     enum-told

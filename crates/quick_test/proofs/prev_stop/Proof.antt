@@ -1,8 +1,8 @@
--- `stop_before` meets its contract.
+-- `prev_stop` meets its contract.
 use borrow.Author.Needs.{needs}
 use Rattle.laws.specs.Picks.{picks}
-use Rattle.quick_test.proofs.stop_before.Tie as tie
-use Rattle.quick_test.proofs.stop_before.Statement.{statement}
+use Rattle.quick_test.proofs.prev_stop.Tie as tie
+use Rattle.quick_test.proofs.prev_stop.Statement.{statement}
 
 returns : tie.Need-returns
 returns c = search picks
@@ -16,5 +16,5 @@ stop-at-requires c κs = search needs
 returns-2 : tie.Need-returns-2
 returns-2 c = search picks
 
-pub stop-before-spec : {M : Type 1} → statement M
-stop-before-spec = tie.close (tie.spec returns sub-stop-at stop-at-requires returns-2)
+pub prev-stop-spec : {M : Type 1} → statement M
+prev-stop-spec = tie.close (tie.spec returns sub-stop-at stop-at-requires returns-2)
