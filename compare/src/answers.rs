@@ -47,7 +47,7 @@ pub fn print_case(side: &mut dyn Side, case: &Case) {
     for asked in &case.calls {
         println!("{}", call_line(&asked.call));
         println!("{}", side.call(&case.problem, &mut plan, &asked.call).line());
-        if asked.call.kind() <= 1 {
+        if asked.call.has_plan() {
             print_plan(&plan);
         }
     }

@@ -175,6 +175,11 @@ impl Call {
     pub fn name(&self) -> &'static str {
         KINDS[self.kind()]
     }
+
+    /// Whether the call has a plan, which it then writes.
+    pub fn has_plan(&self) -> bool {
+        matches!(self, Call::Minimise { .. } | Call::Eliminate { .. })
+    }
 }
 
 /// What `route_eval` and `schedule` say of a route that is allowed.

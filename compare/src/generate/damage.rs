@@ -37,7 +37,7 @@ impl Maker {
                 kind => self.route_call_of(kind - 4, &good, target, target),
             };
             let mut rows = of_problem.clone();
-            if call.kind() <= 1 {
+            if call.has_plan() {
                 rows.extend(&of_plan);
             }
             if self.random.chance(55) {
