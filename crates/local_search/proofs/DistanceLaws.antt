@@ -1,8 +1,8 @@
 -- Laws of specs/Route, each from the facts that the code has where it needs it. Assumes nothing.
-use Prim.Native.Nat.{ℕ, zero, suc, _+_, _-_, _*_, _≤_, _<_}
+use Prim.Native.Nat.{ℕ, _+_, _-_, _*_, _≤_, _<_}
 use native.Mathlib.Numerals.{add-one}
 use native.Mathlib.Omega.{arith}
-use mathlib.Core.Path.{_≡_, refl, sym, ap, subst, _∙_}
+use mathlib.Core.Path.{_≡_, refl, sym, ap, _∙_}
 use mathlib.Core.Bool.{Bool, true, false, cond}
 use mathlib.Core.List.{List, [], _∷_}
 use lib.ListN.{length, getD, take, drop, drop-of-length-le}
@@ -18,10 +18,9 @@ use Rattle.laws.specs.All.{All, all-get}
 use Rattle.laws.specs.Loops.{foldl, fold-more, fold-end}
 use Rattle.models.specs.declared.vehicle.Vehicle.{Vehicle}
 use Rattle.models.specs.Vehicle.{fixed-cost-in-distance}
-use Rattle.models.specs.Customer.{Customers}
-use Rattle.models.specs.Problem.{DistanceMatrix, matrix, Problem, of-distances, Stops}
+use Rattle.models.specs.Problem.{DistanceMatrix, matrix, of-distances, Stops}
 use Rattle.distance.specs.Matrix.{get, cell}
-use Rattle.plan.specs.Plan.{Plan, Lent, split, route, total, offset}
+use Rattle.plan.specs.Plan.{Lent, split, route, total, offset}
 use Rattle.plan.specs.Slices.{length-split, offset-more, route-within, route-part}
 use Rattle.local_search.specs.Route.{legs, route-distance, prev-stop, next-stop, insertion-cost, cost}
 

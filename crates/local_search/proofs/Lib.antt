@@ -2,6 +2,6 @@
 -- the distance of a route, an insertion, the cost of a plan
 pub mod DistanceLaws
 -- loads, room, and the check where it is needed
-pub mod CheckLaws
+pub mod FeasibleLaws
 -- for callers: from the parts that a function reads to the whole problem
 pub mod ReadLaws

@@ -1,6 +1,6 @@
 -- `feasible::has_room` meets its contract.
 use borrow.Author.Needs.{needs}
-use Rattle.local_search.proofs.CheckLaws.{load-laws}
+use Rattle.local_search.proofs.FeasibleLaws.{load-laws}
 use Rattle.local_search.proofs.feasible.has_room.Statement.{statement}
 use Rattle.local_search.proofs.feasible.has_room.Tie as tie
 

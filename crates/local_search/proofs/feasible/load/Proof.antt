@@ -5,7 +5,7 @@ use lib.ListN.{length}
 use mir.Syntax.{w32}
 use mir.Val.{toZ}
 use native.Mathlib.Omega.{arith}
-use Rattle.local_search.proofs.CheckLaws.{Loading, loading-laws}
+use Rattle.local_search.proofs.FeasibleLaws.{Loading, loading-laws}
 use Rattle.local_search.proofs.feasible.load.Statement.{statement}
 use Rattle.local_search.proofs.feasible.load.Tie as tie
 

@@ -1,6 +1,6 @@
 -- `feasible::within_capacity` meets its contract.
 use borrow.Author.Needs.{needs}
-use Rattle.local_search.proofs.CheckLaws.{load-laws}
+use Rattle.local_search.proofs.FeasibleLaws.{load-laws}
 use Rattle.local_search.proofs.feasible.within_capacity.Statement.{statement}
 use Rattle.local_search.proofs.feasible.within_capacity.Tie as tie
 

@@ -1,12 +1,12 @@
 -- Laws of specs/Feasible, each from the facts that the code has where it needs it. Assumes nothing.
 use Prim.Native.Nat.{ℕ, _+_, _*_, _≤_, _<_}
 use native.Mathlib.Omega.{arith}
-use mathlib.Core.Path.{_≡_, refl, sym, ap, subst, _∙_}
-use mathlib.Core.Bool.{Bool, true, false, not, _&&_, _||_}
+use mathlib.Core.Path.{_≡_, refl, sym, _∙_}
+use mathlib.Core.Bool.{Bool, true, false, not, _||_}
 use mathlib.Core.List.{List, [], _∷_}
 use lib.ListN.{length, getD, drop}
-use lib.IntN.{ℤ, pos, negsuc, natAbs, _+ℤ_}
-use lib.Signed.{mag, leZ}
+use lib.IntN.{ℤ, pos, natAbs, _+ℤ_}
+use lib.Signed.{leZ}
 use mir.Syntax.{w32}
 use mir.Val.{SFits, toZ, ofZ}
 use mir.ValLaws.{toZ-ofZ}
@@ -27,7 +27,7 @@ use Rattle.local_search.specs.RouteLaws.{has-room-fits}
 abbrev adds : List ℤ → ℤ → ℕ → ℤ
 adds demand sum c = sum +ℤ demand-at demand c
 
--- the stops before i make the sum z, and the rest of them the whole load of it
+-- z is the load of the stops before i: the whole load is what the rest makes of it
 pub record Loading (demand : List ℤ) (route : List ℕ) (z : ℤ) (i : ℕ) : Type 0 where
   pub demands : Demands (length demand) demand
   pub places : Stops (length demand) route
@@ -46,7 +46,7 @@ module _ (demand : List ℤ) (route : List ℕ) where
     sum-small : natAbs (z +ℤ demand-at demand (getD route i 0)) ≤ (i + 1) * 1_000_000
     sum-small = omega (arith, natAbs-add z (demand-at demand (getD route i 0)), l .small, l .demands .each (getD route i 0))
 
-    -- an element goes by its bits
+    -- an element is its bits, read back
     one-back : toZ w32 (ofZ w32 (demand-at demand (getD route i 0))) ≡ demand-at demand (getD route i 0)
     one-back = toZ-ofZ w32 (demand-at demand (getD route i 0)) (sfits-abs w32 (demand-at demand (getD route i 0)) (omega (arith, l .demands .each (getD route i 0))))
 
