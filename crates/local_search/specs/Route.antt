@@ -47,6 +47,6 @@ pub record Insertion : Type 0 where
   pub pos : ℕ
 
 -- the closure `cost` of `minimize_routes`: "cost sums route distance + fixed in route order". The sum starts at 0.0; Rust's starts at −0.0,
--- which no sum of a route or more shows (floats, `same-start`).
+-- which no sum of a route or more shows (`cost-start`).
 unfoldable pub cost : Problem → Plan → Float
 cost p routes = foldl (λ sum r. sum ⊕ (route-distance (p .roads) (p .vehicle .«depot_id») r ⊕ fixed-cost-in-distance (p .vehicle))) 0f routes

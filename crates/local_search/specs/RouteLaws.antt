@@ -1,5 +1,5 @@
 -- Laws of one route: the load of a route with a stop put in, the check where it is not needed, what a feasible route keeps; and the cost of a
--- plan is an f64. Assumes nothing.
+-- plan is an f64, wherever the sum starts. Assumes nothing.
 use Prim.Native.Nat.{ℕ}
 use mathlib.Core.Path.{_≡_, refl, sym, ap, _∙_}
 use mathlib.Core.List.{List, [], _∷_, _++_}
@@ -9,7 +9,8 @@ use lib.IntN.{ℤ, pos as nonneg, _+ℤ_, +ℤ-idl, +ℤ-idr, +ℤ-assoc, +ℤ-c
 use lib.Dec.{T}
 use lib.Ieee.{Float, binary64, ofBits, fits as is-f64}
 use lib.Ieee.Fits.{add-fits}
-use Rattle.floats.specs.Binary64.{_⊕_, 0f}
+use Rattle.floats.specs.Binary64.{_⊕_, 0f, -0f}
+use Rattle.floats.specs.Plain.{plain, add-zero-left, add-minus-zero-left}
 use Rattle.laws.specs.Edits.{insert-at}
 use Rattle.laws.specs.Loops.{foldl}
 use Rattle.laws.specs.Searches.{and-first, and-second}
@@ -92,3 +93,13 @@ cost-held p routes = from 0f routes tt
     from s (r ∷ routes) h =
         let more = route-distance (p .roads) (depot p) r ⊕ fixed-cost-in-distance (p .vehicle) in
         from (s ⊕ more) routes (add-fits binary64 s more)
+
+-- Rust's sum starts at −0.0: the same, where the first route's term has its sign clear
+pub cost-start : (p : Problem) (r : List ℕ) (routes : Plan) → T (plain (route-distance (p .roads) (depot p) r ⊕ fixed-cost-in-distance (p .vehicle)))
+    → foldl (λ sum q. sum ⊕ (route-distance (p .roads) (depot p) q ⊕ fixed-cost-in-distance (p .vehicle))) -0f (r ∷ routes) ≡ cost p (r ∷ routes)
+unfolding cost foldl
+cost-start p r routes h =
+    let x = route-distance (p .roads) (depot p) r ⊕ fixed-cost-in-distance (p .vehicle) in
+    let held = add-fits binary64 (route-distance (p .roads) (depot p) r) (fixed-cost-in-distance (p .vehicle)) in
+    ap (λ (s : Float). foldl (λ sum q. sum ⊕ (route-distance (p .roads) (depot p) q ⊕ fixed-cost-in-distance (p .vehicle))) s routes)
+    (add-minus-zero-left x held ∙ sym (add-zero-left x h held))
