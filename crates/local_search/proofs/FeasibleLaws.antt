@@ -129,7 +129,10 @@ module _ (n : ℕ) (demand : List ℤ) (d : Demands n demand) where
   pub stops-own : (route : List ℕ) → Stops n route → Stops (length demand) route
   stops-own route s = rw (d .cells) s
 
-pub ruleset own-laws = (needs, demands-own, stops-own)
+  pub place-own : (c : ℕ) → c < n → c < length demand
+  place-own c h = rw (d .cells) h
+
+pub ruleset own-laws = (needs, demands-own, stops-own, place-own)
 
 -- ---- the check, where it is needed
 
@@ -162,3 +165,5 @@ module _ (p : Problem) (pos c : ℕ) (r : List ℕ) (v : Bool) (ev : v ≡ has-r
 
   pub trial-within : (w : Bool) → v ≡ true → w ≡ checked p (insert-at pos c r) → w ≡ feasible p (insert-at pos c r)
   trial-within w e ew = feasible-within p (insert-at pos c r) v (ev ∙ sym (has-room-fits p pos c r)) w e ew
+
+pub ruleset trial-laws = (trial-full, trial-within)

@@ -82,10 +82,9 @@ pub fn checked(
         (now (distances .entry)) (now (times .entry)) vehicle) (now (route .entry)) ⌝ }
 {
     if needed {
-        let depot = vehicle.depot_id;
         return route_feasible(
             route,
-            depot,
+            vehicle.depot_id,
             RouteLimits::of(vehicle),
             n,
             distances,
@@ -122,12 +121,11 @@ pub fn trial_ok(
         (now (distances .entry)) (now (times .entry)) vehicle) (insert-at pos c (now (route .entry))) ⌝ }
 {
     if needed {
-        let depot = vehicle.depot_id;
         return trial_feasible(
             route,
             pos,
             c,
-            depot,
+            vehicle.depot_id,
             RouteLimits::of(vehicle),
             n,
             distances,
