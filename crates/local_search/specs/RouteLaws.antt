@@ -11,22 +11,14 @@ use lib.Ieee.{Float, binary64, ofBits, fits as is-f64}
 use lib.Ieee.Fits.{add-fits}
 use Rattle.floats.specs.Binary64.{_⊕_, 0f, -0f}
 use Rattle.floats.specs.Plain.{plain, add-zero-left, add-minus-zero-left}
-use Rattle.laws.specs.All.{all-default}
 use Rattle.laws.specs.Edits.{insert-at}
 use Rattle.laws.specs.Loops.{foldl}
-use Rattle.laws.specs.Searches.{any-none, and-first, and-second}
-use Rattle.laws.specs.Walks.{walk}
-use Rattle.models.specs.declared.vehicle.Limit.{Limit}
-use Rattle.models.specs.declared.vehicle.Limit.the-variants.{None as NoLimit, At as LimitAt}
-use Rattle.models.specs.declared.vehicle.Rest.{Rest}
-use Rattle.models.specs.declared.vehicle.Rest.the-variants.{None as NoRest, Break}
-use Rattle.models.specs.Customer.{Customers, windowed}
+use Rattle.laws.specs.Searches.{and-first, and-second}
 use Rattle.models.specs.Vehicle.{fixed-cost-in-distance}
-use Rattle.models.specs.RouteLimits.{NONE, limits-of, no-limit, no-rest, is-unlimited}
-use Rattle.models.specs.Problem.{DistanceMatrix, Problem, depot}
-use Rattle.evaluation.specs.declared.check.Way.{Way}
-use Rattle.evaluation.specs.Check.{has-time-windows, departure, set-out, reach, reach-all, home-allowed, homeward, feasible-with, route-feasible}
+use Rattle.models.specs.RouteLimits.{limits-of}
+use Rattle.models.specs.Problem.{Problem, depot}
 use Rattle.plan.specs.Plan.{Plan}
+use Rattle.evaluation_laws.proofs.Agreement.{unneeded-passes}
 use Rattle.local_search.specs.Route.{route-distance, cost}
 use Rattle.local_search.specs.Feasible.{Sound, demand-at, load, fits, has-room, constrained, passes, checked, feasible}
 
@@ -69,33 +61,10 @@ pub has-room-fits : (p : Problem) (pos c : ℕ) (r : List ℕ) → fits p (load 
 unfolding has-room
 has-room-fits p pos c r = ap (fits p) (load-insert (p .demand) pos c r)
 
--- ---- the check where it is not needed: no window is there to miss, and every distance and duration is allowed
-
-module _ (cs : Customers) (m : DistanceMatrix) (depot : ℕ) (none : has-time-windows (cs .flags) ≡ false) where
-  unwindowed : (c : ℕ) → windowed (getD (cs .flags) c 0) ≡ false
-  unfolding has-time-windows
-  unwindowed c = all-default {P = λ f. windowed f ≡ false} c (any-none windowed (cs .flags) none) refl
-
-  home-always : (stops : List ℕ) (w : Way) → homeward m depot NONE (reach-all cs m stops w) ≡ true
-  unfolding walk reach departure home-allowed
-  home-always [] w = refl
-  home-always (c ∷ rest) w = rw (unwindowed c) (home-always rest _)
+-- ---- the check where it is not needed
 
 pub unneeded : (p : Problem) (r : List ℕ) → constrained p ≡ false → passes p r ≡ true
-unfolding route-feasible
-unneeded p r e = go (p .vehicle .«max_distance») (p .vehicle .«max_duration») (p .vehicle .rest) (neither (has-time-windows (p .places .flags)) (is-unlimited (limits-of (p .vehicle))) e)
-  where
-    neither : (a b : Bool) → (a || not b) ≡ false → (a ≡ false) × (b ≡ true)
-    neither true b h = absurd (true≢false h)
-    neither false true h = (refl, refl)
-    neither false false h = absurd (true≢false h)
-
-    go : (a b : Limit) (t : Rest) → (has-time-windows (p .places .flags) ≡ false) × ((no-limit a && (no-limit b && no-rest t)) ≡ true)
-        → feasible-with (p .places) (p .roads) (depot p) (record { «max_distance» = a; «max_duration» = b; rest = t }) r t ≡ true
-    go NoLimit NoLimit NoRest h = home-always (p .places) (p .roads) (depot p) (h .0) r (set-out (depot p))
-    go NoLimit NoLimit (Break x y z) h = absurd (false≢true (h .1))
-    go NoLimit (LimitAt y) t h = absurd (false≢true (h .1))
-    go (LimitAt x) b t h = absurd (false≢true (h .1))
+unneeded p r e = unneeded-passes (p .places) (p .roads) (depot p) (limits-of (p .vehicle)) r e
 
 -- ---- what a feasible route keeps: "within capacity and passes the check"
 

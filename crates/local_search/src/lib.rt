@@ -1,2 +1,4 @@
-// What the two route searches share (local_search/mod.rs and the helpers of both): the distance, load and check of a route, the cost of a plan, and the rounds.
-// The definitions and their laws are in specs/.
+// What the two route searches share (local_search/mod.rs and the helpers of both): the distance, load and check of a route, and the cost of a plan.
+// The definitions and their laws are in specs/; the rounds of attempts are there too.
+pub mod feasible;
+pub mod route;

@@ -6,11 +6,11 @@ use mathlib.Core.Path.{_≡_, refl, sym, ap, subst, _∙_}
 use mathlib.Core.Bool.{Bool, true, false, true≢false, false≢true, cond, not, _&&_, _||_}
 use mathlib.Core.List.{List}
 use mathlib.Core.Logic.{_⊎_, inl, inr}
-use lib.ListN.{length, getD}
+use lib.ListN.{length, getD, List·getD-eq-default}
 use lib.Dec.{T, eqb, leb, ltb}
 use lib.Ieee.{Float, nan, inf, fin, binary64, lt, le, fits}
-use lib.IntN.{pos}
-use borrow.Author.Tests.{eqb-true, leb-true, ltb-true}
+use lib.IntN.{ℤ, pos, negsuc, natAbs}
+use borrow.Author.Tests.{eqb-true, leb-true, ltb-true, ltb-false}
 use Rattle.floats.specs.Binary64.{1e12, is-sign-negative}
 use Rattle.floats.specs.Inputs.{Amount, amount-of}
 use Rattle.laws.specs.Searches.{and-first, and-second, every, every-at}
@@ -19,7 +19,7 @@ use Rattle.models.specs.declared.vehicle.Limit.the-variants.{None as NoL
 use Rattle.models.specs.declared.vehicle.Rest.{Rest}
 use Rattle.models.specs.declared.vehicle.Rest.the-variants.{None as NoRest, Break}
 use Rattle.models.specs.Customer.{Customers, Sized, windowed, penalised}
-use Rattle.models.specs.Problem.{DistanceMatrix, Problem, Square, Fit, depot}
+use Rattle.models.specs.Problem.{DistanceMatrix, Problem, Square, Fit, Demands, depot}
 use Rattle.models.specs.Valid.{count-passes, cells-pass, matrix-passes, sizes-pass, is-amount, amounts-pass, window-passes, penalty-passes, demand-passes, place-passes, vehicle-passes, values-pass, windows-pass, depot-passes, valid}
 
 -- ---- a test on one float
@@ -52,6 +52,10 @@ cells-amount : (xs : List Float) → Cells xs → amounts-pass xs ≡ true → (
 cells-amount xs f e k h = amount-is (getD xs k nan) (f .each k h) (every-at (λ i. is-amount (getD xs i nan)) (length xs) k e h)
 
 -- ---- the rows, one by one
+
+demand-small : (d : ℤ) → demand-passes d ≡ true → natAbs d ≤ 1_000_000
+demand-small (pos n) e = leb-true n 1_000_000 e
+demand-small (negsuc n) e = omega (arith, leb-true n 999_999 (and-first (leb n 999_999) true e))
 
 either : (a b : Bool) → (a || b) ≡ true → (a ≡ true) ⊎ (b ≡ true)
 either true b e = inl refl
@@ -147,6 +151,19 @@ module _ (p : Problem) (v : valid p ≡ true) where
       let s = and-second b (c && (d && e)) r in
       let t = and-second c (d && e) s in
       (and-first a (b && (c && (d && e))) row-2, and-first b (c && (d && e)) r, and-first c (d && e) s, and-first d e t, and-second d e t)
+
+  pub valid-demands : Demands (p .roads .size) (p .demand)
+  valid-demands = record { cells = valid-demand; each = λ k. go k (ltb k (length (p .demand))) refl }
+    where
+      go : (k : ℕ) (t : Bool) → ltb k (length (p .demand)) ≡ t → natAbs (getD (p .demand) k (pos 0)) ≤ 1_000_000
+      go k true e =
+          let a = leb (getD (p .places .flags) k 0) 3 in
+          let b = window-passes (p .places) k in
+          let d = penalty-passes (p .places) k in
+          let z = demand-passes (getD (p .demand) k (pos 0)) in
+          let r = every-at (place-passes (p .demand) (p .places)) (length (p .demand)) k (values .4) (ltb-true k (length (p .demand)) e) in
+          demand-small (getD (p .demand) k (pos 0)) (and-second d z (and-second b (d && z) (and-second a (b && (d && z)) r)))
+      go k false e = rw (List·getD-eq-default (p .demand) (pos 0) (ltb-false k (length (p .demand)) e)) (omega arith)
 
   module _ (f : Floats p) where
     pub valid-service : (c : ℕ) → c < p .roads .size → Amount (getD (p .places .service) c nan)

@@ -2,9 +2,9 @@
 use Prim.Native.Nat.{ℕ, _*_, _≤_, _<_}
 use mathlib.Core.Path.{_≡_}
 use mathlib.Core.Logic.{_⊎_}
-use mathlib.Core.List.{List}
+use mathlib.Core.List.{List, []}
 use lib.ListN.{length, getD}
-use lib.IntN.{ℤ}
+use lib.IntN.{ℤ, pos, natAbs}
 use lib.Ieee.{Float}
 use Rattle.models.specs.declared.vehicle.Vehicle.{Vehicle}
 use Rattle.models.specs.Customer.{Customers, customers, Sized}
@@ -30,6 +30,13 @@ abbrev pub problem : ℕ → List ℤ → List Float → List Float → List Flo
 problem n demand service ready due penalty flags distances times vehicle =
     record { demand = demand; places = customers service ready due penalty flags; roads = matrix n distances times; vehicle = vehicle }
 
+-- a problem of some parts, for what reads no other
+abbrev pub of-demand : List ℤ → Vehicle → Problem
+of-demand demand vehicle = problem 0 demand [] [] [] [] [] [] [] vehicle
+
+abbrev pub of-distances : ℕ → List Float → Vehicle → Problem
+of-distances n distances vehicle = problem n [] [] [] [] [] [] distances [] vehicle
+
 -- the depot of a problem, where every route starts and ends
 abbrev pub depot : Problem → ℕ
 depot p = p .vehicle .«depot_id»
@@ -51,3 +58,8 @@ pub record Fit (cs : Customers) (m : DistanceMatrix) : Type 0 where
 pub record Stops (n : ℕ) (route : List ℕ) : Type 0 where
   pub few : length route ≤ 256
   pub each : (k : ℕ) → k < length route → getD route k 0 < n
+
+-- a demand for each of n places, none outside −1,000,000..1,000,000
+pub record Demands (n : ℕ) (demand : List ℤ) : Type 0 where
+  pub cells : length demand ≡ n
+  pub each : (k : ℕ) → natAbs (getD demand k (pos 0)) ≤ 1_000_000

@@ -104,10 +104,6 @@ module _ (ls s : List ℕ) (k : ℕ) (l : Lent ls s) where
   pub shorter-there : (pos : ℕ) → Has-stop (split ls s) k pos → 1 ≤ getD ls k 0
   shorter-there pos g = omega (arith, stop-within ls s l k pos g)
 
-  -- all lengths fit in a sum
-  pub total-few : total ls < 65536
-  total-few = omega (arith, l .inside, l .few)
-
 module _ (ls s : List ℕ) (k pos : ℕ) where
   pub position-upto : Has-position (split ls s) k pos → k ≤ length ls
   position-upto g = omega (arith, position-route ls s k pos g)

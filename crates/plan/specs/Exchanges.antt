@@ -6,14 +6,14 @@ use mathlib.Core.Path.{_≡_, ap, sym, _∙_}
 use mathlib.Core.List.{List, [], _∷_, _++_, append-assoc}
 use native.Mathlib.Nat.{le-of-suc-le-suc, not-suc-le-zero, add-assoc, zero-add, suc-add}
 use native.Mathlib.Omega.{arith}
-use lib.ListN.{length, take, drop, getD, set, length-append, length-set, length-drop, take-append-drop}
+use lib.ListN.{length, take, drop, getD, set, length-append, length-set, length-drop, length-map, take-append-drop}
 use lib.Seq.{set-append-left, getD-set-same, getD-set-other, set-comm, set-set, set-getD, length-take-le, take-at, drop-at}
 use Rattle.laws.specs.All.{All, all-set}
-use Rattle.laws.specs.Exchanges.{swap, swap-parts, swap-parts-of, split-at-two, set-two, part}
+use Rattle.laws.specs.Exchanges.{swap, length-swap, swap-parts, swap-parts-of, split-at-two, set-two, part}
 use Rattle.laws.specs.Counts.{count, count-append, count-parts, count-set}
-use Rattle.plan.specs.Plan.{Plan, route, split, flat, lengths-of, total, offset, exchange-stops, exchange-tails, occurs, Holds}
-use Rattle.plan.specs.Slices.{split-is, lengths-split, flat-split, flat-free, length-split, length-route, lengths-get, lengths-take, total-lengths, total-set, flat-append, route-within, stop-split}
-use Rattle.plan.specs.Routes.{lengths-set, occurs-set}
+use Rattle.plan.specs.Plan.{Plan, route, split, flat, lengths-of, total, offset, exchange-stops, exchange-tails, occurs, Holds, Has-position, Has-stop}
+use Rattle.plan.specs.Slices.{split-is, split-own, flat-split-all, lengths-split, flat-split, flat-free, length-split, length-route, lengths-get, lengths-take, total-lengths, total-set, flat-append, route-within, stop-split}
+use Rattle.plan.specs.Routes.{lengths-set, number-set, occurs-set}
 
 -- ---- two routes replaced
 
@@ -36,6 +36,14 @@ module _ (plan : Plan) (a b : ℕ) (p q : List ℕ) (d : a ≡ b → ⊥) where
       let g : occurs x (set (set plan a p) b q) + count x (route b plan) ≡ occurs x (set plan a p) + count x q =
       rw o at (occurs-set x (set plan a p) b q (rw length-set k)) in
       omega (arith, occurs-set x plan a p h)
+
+  pub number-two : a < length plan → b < length plan → length p + length q ≡ length (route a plan) + length (route b plan)
+      → length (flat (set (set plan a p) b q)) ≡ length (flat plan)
+  number-two h k e =
+      let o : route b (set plan a p) ≡ route b plan = getD-set-other plan a b p [] (λ f. d (sym f)) in
+      let g : length (flat (set (set plan a p) b q)) + length (route b plan) ≡ length (flat (set plan a p)) + length q =
+      rw o at (number-set (set plan a p) b q (rw length-set k)) in
+      omega (arith, number-set plan a p h)
 
   -- both put back
   pub set-back : set (set (set (set plan a p) b q) a (route a plan)) b (route b plan) ≡ plan
@@ -80,6 +88,13 @@ module _ (a i b j : ℕ) (plan : Plan) where
         let v = getD (route a plan) i 0 in
         occurs-two plan a b (set (route a plan) i u) (set (route b plan) j v) d x h k (omega (arith, count-set x (route a plan) i u hi, count-set x (route b plan) j v hj))
 
+    pub number-exchange-stops : a < length plan → b < length plan → length (flat (exchange-stops a i b j plan)) ≡ length (flat plan)
+    unfolding exchange-stops
+    number-exchange-stops h k =
+        let u = getD (route b plan) j 0 in
+        let v = getD (route a plan) i 0 in
+        number-two plan a b (set (route a plan) i u) (set (route b plan) j v) d h k (rw (length-set (route a plan) i u, length-set (route b plan) j v))
+
     module _ (h : a < length plan) (k : b < length plan) where
       pub first-exchange-stops : route a (exchange-stops a i b j plan) ≡ set (route a plan) i (getD (route b plan) j 0)
       unfolding exchange-stops
@@ -88,6 +103,15 @@ module _ (a i b j : ℕ) (plan : Plan) where
       pub second-exchange-stops : route b (exchange-stops a i b j plan) ≡ set (route b plan) j (getD (route a plan) i 0)
       unfolding exchange-stops
       second-exchange-stops = route-second plan a b (set (route a plan) i (getD (route b plan) j 0)) (set (route b plan) j (getD (route a plan) i 0)) d k
+
+      -- both are stops of the plan still
+      pub first-stop-still : i < length (route a plan) → Has-stop (exchange-stops a i b j plan) a i
+      first-stop-still g =
+          record { there = rw length-exchange-stops h; within = rw (first-exchange-stops, length-set (route a plan) i (getD (route b plan) j 0)) g }
+
+      pub second-stop-still : j < length (route b plan) → Has-stop (exchange-stops a i b j plan) b j
+      second-stop-still g =
+          record { there = rw length-exchange-stops k; within = rw (second-exchange-stops, length-set (route b plan) j (getD (route a plan) i 0)) g }
 
       pub exchange-stops-twice : i < length (route a plan) → j < length (route b plan) → exchange-stops a i b j (exchange-stops a i b j plan) ≡ plan
       unfolding exchange-stops
@@ -153,6 +177,18 @@ module _ (ls s : List ℕ) (a i b j : ℕ) (d : a ≡ b → ⊥) (h : a < length
       rw (lengths-set one b (set (route b plan) j y), length-set (route b plan) j y, lb, L1) (set-getD ls b 0) in
       rw (stop-split ls s u b j hj, stop-split ls s u a i hi) (split-is (set one b (set (route b plan) j y)) free (sym l) (e ∙ rw g))
 
+-- among the flat stops
+pub flat-exchange-stops : (a i b j : ℕ) (plan : Plan) → (a ≡ b → ⊥) → Has-stop plan a i → Has-stop plan b j
+    → flat (exchange-stops a i b j plan) ≡ swap (offset (lengths-of plan) a + i) (offset (lengths-of plan) b + j) (flat plan)
+flat-exchange-stops a i b j plan d f g =
+    let ls = lengths-of plan in
+    let s = flat plan in
+    let t : total ls ≡ length s = total-lengths plan in
+    let n : length ls ≡ length plan = length-map plan length in
+    let e = rw (split-own plan) at (exchange-stops-slices ls s a i b j d (omega (arith, f .there)) (omega (arith, g .there)) (rw (lengths-get plan a) (f .within)) (rw (lengths-get plan b) (g .within)) (omega arith)) in
+    let z : total ls ≡ length (swap (offset ls a + i) (offset ls b + j) s) = t ∙ sym (length-swap (offset ls a + i) (offset ls b + j) s) in
+    sym (ap flat e) ∙ flat-split-all ls (swap (offset ls a + i) (offset ls b + j) s) z
+
 -- ---- two tails exchanged
 
 module _ (a i b j : ℕ) (plan : Plan) where
@@ -185,6 +221,16 @@ module _ (a i b j : ℕ) (plan : Plan) where
         let rb = route b plan in
         occurs-two plan a b (take i ra ++ drop j rb) (take j rb ++ drop i ra) d x h k (omega (arith, count-append x (take i ra) (drop j rb), count-append x (take j rb) (drop i ra), count-parts x i ra, count-parts x j rb))
 
+    pub number-exchange-tails : a < length plan → b < length plan → i ≤ length (route a plan) → j ≤ length (route b plan)
+        → length (flat (exchange-tails a i b j plan)) ≡ length (flat plan)
+    unfolding exchange-tails
+    number-exchange-tails h k hi hj =
+        let ra = route a plan in
+        let rb = route b plan in
+        let ti : length (take i ra) ≡ i = length-take-le i ra hi in
+        let tj : length (take j rb) ≡ j = length-take-le j rb hj in
+        number-two plan a b (take i ra ++ drop j rb) (take j rb ++ drop i ra) d h k (simp (length-append, length-drop, ti, tj) (omega arith))
+
     module _ (h : a < length plan) (k : b < length plan) where
       pub first-exchange-tails : route a (exchange-tails a i b j plan) ≡ take i (route a plan) ++ drop j (route b plan)
       unfolding exchange-tails
@@ -193,6 +239,17 @@ module _ (a i b j : ℕ) (plan : Plan) where
       pub second-exchange-tails : route b (exchange-tails a i b j plan) ≡ take j (route b plan) ++ drop i (route a plan)
       unfolding exchange-tails
       second-exchange-tails = route-second plan a b (take i (route a plan) ++ drop j (route b plan)) (take j (route b plan) ++ drop i (route a plan)) d k
+
+      -- both are positions of the plan still
+      pub first-position-still : i ≤ length (route a plan) → Has-position (exchange-tails a i b j plan) a i
+      first-position-still g =
+          let t : length (take i (route a plan)) ≡ i = length-take-le i (route a plan) g in
+          record { there = rw length-exchange-tails h; within = rw (first-exchange-tails, length-append, t) (omega arith) }
+
+      pub second-position-still : j ≤ length (route b plan) → Has-position (exchange-tails a i b j plan) b j
+      second-position-still g =
+          let t : length (take j (route b plan)) ≡ j = length-take-le j (route b plan) g in
+          record { there = rw length-exchange-tails k; within = rw (second-exchange-tails, length-append, t) (omega arith) }
 
       pub exchange-tails-twice : i ≤ length (route a plan) → j ≤ length (route b plan) → exchange-tails a i b j (exchange-tails a i b j plan) ≡ plan
       unfolding exchange-tails

@@ -14,7 +14,7 @@ use Rattle.plan.specs.declared.order.Pick.the-variants.{Nothing, At}
 abbrev pub by-length : List ℕ → List ℕ → List ℕ
 by-length lengths routes = sort-by (λ i j. ltb (getD lengths i 0) (getD lengths j 0)) 0 routes
 
--- all routes by their lengths: `(0..routes.len()).collect()`, sorted
+-- all routes by their lengths: `order` of `minimize_routes` and of `eliminate_routes`
 abbrev pub order : List ℕ → List ℕ
 order lengths = by-length lengths (range 0 (length lengths))
 

@@ -78,22 +78,23 @@ pub record Has-stop (plan : Plan) (k pos : ℕ) : Type 0 where
   pub there : k < length plan
   pub within : pos < length (route k plan)
 
--- ---- edits. A route k is taken out by `erase k` and replaced by `set plan k`.
+-- ---- edits (route_minimization.rs). Route k is taken out by `erase k`, and r put in its place by `set plan k r`.
 
--- `routes[k].insert(pos, c)`
+-- a stop put into a route: `routes[k].insert(pos, c)` of `empty_into`, "On insertion every later stop of the plan moves one place right"
 unfoldable pub put-in : ℕ → ℕ → ℕ → Plan → Plan
 put-in k pos c plan = set plan k (insert-at pos c (route k plan))
 
--- `routes[k].remove(pos)`
+-- a stop taken out of a route, as `eject` leaves it out
 unfoldable pub take-out : ℕ → ℕ → Plan → Plan
 take-out k pos plan = set plan k (erase pos (route k plan))
 
--- the stop at i of route a and the stop at j of route b exchanged: `std::mem::swap(&mut ra[i], &mut rb[j])`
+-- the stop at i of route a and the stop at j of route b exchanged: `std::mem::swap(&mut ra[i], &mut rb[j])` of `perturb`
 unfoldable pub exchange-stops : ℕ → ℕ → ℕ → ℕ → Plan → Plan
 exchange-stops a i b j plan =
     set (set plan a (set (route a plan) i (getD (route b plan) j 0))) b (set (route b plan) j (getD (route a plan) i 0))
 
--- the tails of route a from i and of route b from j exchanged (2-opt*): `routes[a][..i]` with `routes[b][j..]`, `routes[b][..j]` with `routes[a][i..]`
+-- the tail of route a from i and the tail of route b from j exchanged (2-opt*): `routes[a][..i]` goes on with `routes[b][j..]`, and
+-- `routes[b][..j]` with `routes[a][i..]`, as in `perturb`
 unfoldable pub exchange-tails : ℕ → ℕ → ℕ → ℕ → Plan → Plan
 exchange-tails a i b j plan =
     set (set plan a (take i (route a plan) ++ drop j (route b plan))) b (take j (route b plan) ++ drop i (route a plan))
@@ -103,7 +104,7 @@ unfoldable pub non-empty : List ℕ → Bool
 non-empty [] = false
 non-empty (c ∷ cs) = true
 
--- `routes.retain(|r| !r.is_empty())`
+-- "drop empty routes": `routes.retain(|r| !r.is_empty())`
 abbrev pub drop-empty : Plan → Plan
 drop-empty plan = keep non-empty plan
 

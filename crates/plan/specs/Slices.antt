@@ -8,7 +8,7 @@ use native.Mathlib.Numerals.{add-one}
 use native.Mathlib.Omega.{arith}
 use lib.ListN.{length, take, drop, getD, set, length-append, length-drop, take-append-drop}
 use lib.Seq.{take-all, take-append-seam, drop-append-seam, length-take-le, take-add, take-take, drop-drop, getD-take, getD-drop}
-use Rattle.laws.specs.All.{All, all-nil, all-cons, all-append}
+use Rattle.laws.specs.All.{All, all-nil, all-cons, all-append, all-take, all-drop}
 use Rattle.laws.specs.Edits.{erase}
 use Rattle.plan.specs.Plan.{Plan, route, split, flat, lengths-of, total, offset, Holds, Lent, Has-position, Has-stop}
 
@@ -214,3 +214,11 @@ pub all-flat : {P : ℕ → Type 0} {plan : Plan} → All (All P) plan → All P
 unfolding flat
 all-flat all-nil = all-nil
 all-flat (all-cons a b) = all-append a (all-flat b)
+
+pub all-split : {P : ℕ → Type 0} (ls : List ℕ) {s : List ℕ} → All P s → All (All P) (split ls s)
+unfolding split
+all-split [] a = all-nil
+all-split (n ∷ ns) a = all-cons (all-take n a) (all-split ns (all-drop n a))
+
+pub all-routes : {P : ℕ → Type 0} (plan : Plan) → All P (flat plan) → All (All P) plan
+all-routes plan a = rw (split-own plan) at (all-split (lengths-of plan) a)

@@ -9,3 +9,5 @@ pub mod Run
 pub mod Opened
 -- the twelve cases
 pub mod Cases
+-- the table row by row
+pub mod Refusals

@@ -11,7 +11,7 @@ use Rattle.models.specs.Problem.{Problem, depot}
 use Rattle.plan.specs.Plan.{Plan, route}
 use Rattle.local_search.specs.Route.{insertion-cost, Insertion}
 use Rattle.local_search.specs.Feasible.{constrained, has-room, feasible}
-use Rattle.route_minimization.specs.Quick.{may-fit, Times, times}
+use Rattle.quick_test.specs.Quick.{may-fit, Times, times}
 
 -- c may go into the route at pos: "the quick test and the full check"
 unfoldable pub may-go-in : Problem → List ℕ → Times → ℕ → ℕ → Bool

@@ -16,7 +16,7 @@ use Rattle.models.specs.Problem.{Problem, problem}
 use Rattle.plan.specs.Plan.{Plan}
 use Rattle.local_search.specs.Feasible.{feasible}
 use Rattle.local_search.specs.Rounds.{Counts}
-use Rattle.route_minimization.specs.Quick.{departures, latest-arrivals, may-fit}
+use Rattle.quick_test.specs.Quick.{departures, latest-arrivals, may-fit}
 use Rattle.route_minimization.specs.Perturb.{move}
 use Rattle.route_minimization.specs.Minimize.{Allowance, more, turn, empty-into, minimize-routes}
 use Rattle.route_minimization.specs.Opened.{opened}

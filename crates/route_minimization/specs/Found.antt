@@ -20,7 +20,7 @@ use Rattle.plan.specs.Plan.{Plan, route, non-empty}
 use Rattle.local_search.specs.Options.{Each, each-or-else}
 use Rattle.local_search.specs.Route.{insertion-cost, Insertion}
 use Rattle.local_search.specs.Feasible.{constrained, has-room, feasible}
-use Rattle.route_minimization.specs.Quick.{may-fit, Times, times}
+use Rattle.quick_test.specs.Quick.{may-fit, Times, times}
 use Rattle.route_minimization.specs.Cheapest.{may-go-in, cheaper, try-position, try-positions, try-route, cheapest}
 use Rattle.route_minimization.specs.Eject.{kept, ejected, failure-sum, Ejection, fails-more, outranks, try-in-kept, try-kept, try-out, try-one, try-two, eject-one, eject-two, eject, into, gone}
 

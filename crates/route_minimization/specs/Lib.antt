@@ -1,6 +1,4 @@
 -- Route minimisation with an ejection pool. A file uses only files above it in this list.
--- the quick test: departures, latest arrivals
-pub mod Quick
 -- the cheapest insertion
 pub mod Cheapest
 -- one stop ejected, else two
@@ -23,5 +21,7 @@ pub mod Minimized
 pub mod Falls
 -- every definition, opened for theorems by computation
 pub mod Opened
+-- two plans reduced by ejections, by computation
+pub mod Ejections
 -- the definitions computed on small plans
 pub mod Examples

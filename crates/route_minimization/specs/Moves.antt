@@ -9,6 +9,7 @@ use native.Mathlib.Omega.{arith}
 use borrow.Author.Tests.{ltb-false, leb-true, leb-false}
 use lib.ListN.{length, getD, take, drop, set}
 use lib.Dec.{leb, ltb}
+use Rattle.laws.specs.Searches.{and-first, and-second}
 use Rattle.laws.specs.All.{All}
 use Rattle.laws.specs.Loops.{cond-rule, loop-rule}
 use Rattle.laws.specs.Searches.{and-first, and-second}

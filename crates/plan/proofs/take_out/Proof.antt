@@ -5,7 +5,7 @@ use Rattle.plan.proofs.take_out.Tie as tie
 use Rattle.plan.proofs.take_out.Statement.{statement}
 
 offset-requires : tie.Need-offset-requires
-offset-requires c κs = search (needs, place-laws)
+offset-requires c κs = search needs
 
 offset-requires-2 : tie.Need-offset-requires-2
 offset-requires-2 c κs = search (needs, place-laws)

@@ -1,0 +1,88 @@
+//! The commands: a run of the comparison, one case in full, and cases with the original's answers.
+
+use comparison::model::Model;
+use comparison::original::Original;
+use comparison::problem::Side;
+use comparison::{answers, cases, generate, run, ORIGINAL};
+
+const USAGE: &str = "compare [COUNT] [SEED]           compares COUNT calls (20000) of SEED (1)
+compare --case CASE [PLACES]     prints the case of that number with every side's answers
+compare --answers N SEED [PLACES] [STEPS]
+                                 prints N cases with the original's answers, of at most PLACES places (8) each,
+                                 and with at most STEPS steps (100) in a call";
+
+/// Runs the command that the words name, and returns its exit status.
+pub fn run(words: &[String]) -> i32 {
+    let (command, words) = match words.first() {
+        Some(word) if word.starts_with("--") => (word.as_str(), &words[1..]),
+        _ => ("", words),
+    };
+    let Ok(numbers) = words.iter().map(|word| word.parse()).collect::<Result<Vec<u64>, _>>() else {
+        return wrong_usage();
+    };
+    match (command, &numbers[..]) {
+        ("", []) => compare(20_000, 1),
+        ("", [count]) => compare(*count, 1),
+        ("", [count, seed]) => compare(*count, *seed),
+        ("--case", [seed]) => one_case(*seed, run::MOST_PLACES),
+        ("--case", [seed, places]) => one_case(*seed, *places as usize),
+        ("--answers", [count, seed]) => print_answers(*count, *seed, 8, 100),
+        ("--answers", [count, seed, places]) => print_answers(*count, *seed, *places as usize, 100),
+        ("--answers", [count, seed, places, steps]) => print_answers(*count, *seed, *places as usize, *steps),
+        _ => wrong_usage(),
+    }
+}
+
+fn wrong_usage() -> i32 {
+    eprintln!("{USAGE}");
+    2
+}
+
+fn compare(count: u64, seed: u64) -> i32 {
+    println!("the original in {ORIGINAL} against the model: {count} calls, seed {seed}");
+    let mut original = Original;
+    let mut model = Model::default();
+    let mut fault = false;
+    for side in [&mut original as &mut dyn Side, &mut Model::default()] {
+        for number in cases::wrong(side) {
+            println!("case {number} of the twelve: the {} answers otherwise", side.name());
+            fault = true;
+        }
+    }
+    let seen = run::run(&mut [&mut original, &mut model], count, seed);
+    println!("\nevents reached");
+    model.events.print();
+    println!();
+    seen.print();
+    println!();
+    for name in model.events.missing() {
+        println!("never reached: {name}");
+        fault = true;
+    }
+    for name in seen.missing() {
+        println!("never reached: {name}");
+        fault = true;
+    }
+    println!("{} calls compared, {} differ", seen.calls, seen.differ);
+    (fault || seen.differ > 0) as i32
+}
+
+fn one_case(seed: u64, places: usize) -> i32 {
+    if places == 0 {
+        return wrong_usage();
+    }
+    let case = generate::case(seed, places);
+    for side in [&mut Original as &mut dyn Side, &mut Model::default()] {
+        println!("# {}", side.name());
+        answers::print_case(side, &case);
+    }
+    0
+}
+
+fn print_answers(count: u64, seed: u64, places: usize, steps: u64) -> i32 {
+    if places == 0 {
+        return wrong_usage();
+    }
+    answers::print(&mut Original, count, seed, places, steps);
+    0
+}

@@ -1,0 +1,28 @@
+//! The comparison: the original Rust and our own model of document 01's steps, driven with the same calls.
+//!
+//! The original's files say `rand`, `u_metaheur` and `crate::..`, so they are compiled at the root of this crate, and
+//! the two names lead back to it, where the stand-ins are.
+
+extern crate self as rand;
+extern crate self as u_metaheur;
+
+include!(concat!(env!("OUT_DIR"), "/tree.rs"));
+
+pub mod answers;
+pub mod cases;
+pub mod checks;
+pub mod claim;
+pub mod events;
+pub mod generate;
+pub mod model;
+#[cfg(original)]
+pub mod original;
+pub mod problem;
+pub mod random;
+pub mod run;
+mod stand_ins;
+
+pub use stand_ins::{Deadline, Rng, RngExt, Tape};
+
+/// The folder that the original was built from, or looked for in.
+pub const ORIGINAL: &str = env!("COMPARE_ORIGINAL");

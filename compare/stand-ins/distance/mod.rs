@@ -1,0 +1,3 @@
+//! Stand-in: the module that holds the original's matrix.
+mod matrix;
+pub use matrix::DistanceMatrix;

@@ -1,0 +1,7 @@
+-- What the functions' proofs lean on.
+-- the distance of a route, an insertion, the cost of a plan
+pub mod DistanceLaws
+-- loads, room, and the check where it is needed
+pub mod FeasibleLaws
+-- for callers: from the parts that a function reads to the whole problem
+pub mod ReadLaws

@@ -1,0 +1,181 @@
+// The load of a route and its check: whether it is feasible.
+ghost use mathlib.Core.Path.{_≡_};
+ghost use mathlib.Core.List.{[]};
+ghost use Prim.Native.Nat.{_<_, _≤_};
+ghost use lib.ListN.{length};
+ghost use lib.IntN.{natAbs, _+ℤ_};
+ghost use Rattle.laws.specs.Edits.{insert-at};
+ghost use Rattle.models.specs.Customer.{customers};
+ghost use Rattle.models.specs.RouteLimits.{limits-of};
+ghost use Rattle.models.specs.Problem.{matrix, problem, of-demand, Fit, Stops, Demands};
+ghost use Rattle.evaluation.specs.Check.{route-checks-needed};
+ghost use Rattle.local_search.specs.Feasible.{demand-at, load, fits, has-room, checked, feasible};
+use evaluation::check::route_checks_needed;
+use evaluation::check::route_feasible;
+use evaluation::trial::trial_feasible;
+use models::limits::RouteLimits;
+use models::vehicle::Vehicle;
+
+// The sum of the demands of a route.
+pub fn load(route: &[u16], demand: &[i32]) -> i32
+    requires { ⌜ Demands (length (now demand)) (now demand) × Stops (length (now demand)) (now route) ⌝ }
+    ensures { λ r. ⌜ r ≡ load (now (demand .entry)) (now (route .entry)) ⌝ }
+{
+    let mut sum = 0;
+    let mut i = 0;
+    while i < route.len() {
+        let c = route[i] as usize;
+        sum = sum + demand[c];
+        i += 1;
+    }
+    sum
+}
+
+// Whether a route's load and the demand of c are within capacity together.
+pub fn has_room_for(sum: i32, c: usize, demand: &[i32], vehicle: Vehicle) -> bool
+    requires { ⌜ Demands (length (now demand)) (now demand) × (c < length (now demand)) × (natAbs sum ≤ 256_000_000) ⌝ }
+    ensures { λ r. ⌜ r ≡ fits (of-demand (now (demand .entry)) vehicle) (sum +ℤ demand-at (now (demand .entry)) c) ⌝ }
+{
+    sum + demand[c] <= vehicle.capacity
+}
+
+// Whether a route has room for c.
+pub fn has_room(route: &[u16], c: usize, demand: &[i32], vehicle: Vehicle) -> bool
+    requires { ⌜ Demands (length (now demand)) (now demand) × Stops (length (now demand)) (now route) × (c < length (now demand)) ⌝ }
+    ensures { λ r. ⌜ r ≡ has-room (of-demand (now (demand .entry)) vehicle) (now (route .entry)) c ⌝ }
+{
+    has_room_for(load(route, demand), c, demand, vehicle)
+}
+
+// Whether a route's load is within capacity.
+fn within_capacity(route: &[u16], demand: &[i32], vehicle: Vehicle) -> bool
+    requires { ⌜ Demands (length (now demand)) (now demand) × Stops (length (now demand)) (now route) ⌝ }
+    ensures { λ r. ⌜ r ≡ fits (of-demand (now (demand .entry)) vehicle) (load (now (demand .entry)) (now (route .entry))) ⌝ }
+{
+    load(route, demand) <= vehicle.capacity
+}
+
+// Whether the route check is needed. A search asks this once.
+pub fn constrained(flags: &[u8], vehicle: Vehicle) -> bool
+    ensures { λ r. ⌜ r ≡ route-checks-needed (now (flags .entry)) (limits-of vehicle) ⌝ }
+{
+    route_checks_needed(flags, RouteLimits::of(vehicle))
+}
+
+// Whether a route passes the check, where it is needed.
+pub fn checked(
+    route: &[u16],
+    needed: bool,
+    vehicle: Vehicle,
+    n: usize,
+    distances: &[f64],
+    times: &[f64],
+    service: &[f64],
+    ready: &[f64],
+    due: &[f64],
+    penalty: &[f64],
+    flags: &[u8],
+) -> bool
+    requires { ⌜ Fit (customers (now service) (now ready) (now due) (now penalty) (now flags)) (matrix n (now distances) (now times)) ⌝ }
+    requires { ⌜ (vehicle .«depot_id» < n) × Stops n (now route) × (needed ≡ route-checks-needed (now flags) (limits-of vehicle)) ⌝ }
+    ensures { λ r. ⌜ r ≡ checked (problem n [] (now (service .entry)) (now (ready .entry)) (now (due .entry)) (now (penalty .entry)) (now (flags .entry))
+        (now (distances .entry)) (now (times .entry)) vehicle) (now (route .entry)) ⌝ }
+{
+    if needed {
+        let depot = vehicle.depot_id;
+        return route_feasible(
+            route,
+            depot,
+            RouteLimits::of(vehicle),
+            n,
+            distances,
+            times,
+            service,
+            ready,
+            due,
+            penalty,
+            flags,
+        );
+    }
+    true
+}
+
+// Whether a route with c put in at pos passes the check, where it is needed. With `has_room` it makes the trial route feasible.
+pub fn trial_ok(
+    route: &[u16],
+    pos: usize,
+    c: usize,
+    needed: bool,
+    vehicle: Vehicle,
+    n: usize,
+    distances: &[f64],
+    times: &[f64],
+    service: &[f64],
+    ready: &[f64],
+    due: &[f64],
+    penalty: &[f64],
+    flags: &[u8],
+) -> bool
+    requires { ⌜ Fit (customers (now service) (now ready) (now due) (now penalty) (now flags)) (matrix n (now distances) (now times)) ⌝ }
+    requires { ⌜ (vehicle .«depot_id» < n) × (c < n) × (pos ≤ length (now route)) × Stops n (now route) × (needed ≡ route-checks-needed (now flags) (limits-of vehicle)) ⌝ }
+    ensures { λ r. ⌜ r ≡ checked (problem n [] (now (service .entry)) (now (ready .entry)) (now (due .entry)) (now (penalty .entry)) (now (flags .entry))
+        (now (distances .entry)) (now (times .entry)) vehicle) (insert-at pos c (now (route .entry))) ⌝ }
+{
+    if needed {
+        let depot = vehicle.depot_id;
+        return trial_feasible(
+            route,
+            pos,
+            c,
+            depot,
+            RouteLimits::of(vehicle),
+            n,
+            distances,
+            times,
+            service,
+            ready,
+            due,
+            penalty,
+            flags,
+        );
+    }
+    true
+}
+
+// Whether a route is feasible: within capacity, and passing the check where it is needed.
+pub fn feasible(
+    route: &[u16],
+    needed: bool,
+    vehicle: Vehicle,
+    demand: &[i32],
+    n: usize,
+    distances: &[f64],
+    times: &[f64],
+    service: &[f64],
+    ready: &[f64],
+    due: &[f64],
+    penalty: &[f64],
+    flags: &[u8],
+) -> bool
+    requires { ⌜ Fit (customers (now service) (now ready) (now due) (now penalty) (now flags)) (matrix n (now distances) (now times)) ⌝ }
+    requires { ⌜ (vehicle .«depot_id» < n) × Demands n (now demand) × Stops n (now route) × (needed ≡ route-checks-needed (now flags) (limits-of vehicle)) ⌝ }
+    ensures { λ r. ⌜ r ≡ feasible (problem n (now (demand .entry)) (now (service .entry)) (now (ready .entry)) (now (due .entry)) (now (penalty .entry)) (now (flags .entry))
+        (now (distances .entry)) (now (times .entry)) vehicle) (now (route .entry)) ⌝ }
+{
+    if within_capacity(route, demand, vehicle) {
+        return checked(
+            route,
+            needed,
+            vehicle,
+            n,
+            distances,
+            times,
+            service,
+            ready,
+            due,
+            penalty,
+            flags,
+        );
+    }
+    false
+}

@@ -1,0 +1,7 @@
+-- Laws of this crate's definitions, as the code meets them.
+-- departures, forward
+pub mod DepartureLaws
+-- latest arrivals, backward
+pub mod LatestLaws
+-- the test of one position
+pub mod FitLaws

@@ -1,0 +1,315 @@
+// The quick test of the ejection pool (local_search/route_minimization.rs): when each stop of a route is left, how late each may
+// be reached, and, by these two and in one step, whether a stop may go in between.
+ghost use mathlib.Core.Path.{_≡_};
+ghost use Prim.Native.Nat.{_-_, _≤_, _<_};
+ghost use lib.ListN.{length, getD, take, drop};
+ghost use Rattle.models.specs.Customer.{customers, customer-at};
+ghost use Rattle.models.specs.Problem.{matrix, Square, Fit, Stops};
+ghost use Rattle.local_search.specs.Route.{prev-stop};
+ghost use Rattle.quick_test.specs.Quick.{served-at, departures, earliest-start, latest-start, latest-arrival, latest-arrivals, in-time, left-before, may-fit};
+ghost use Rattle.quick_test.specs.Parts.{leave, told, latest-in, next-in-time};
+use distance::travel_time;
+use evaluation::check::Left;
+use floats::abs;
+use floats::infinity;
+use floats::max;
+use floats::min;
+use models::customer::Customer;
+use models::customer::Window;
+use models::customer::customer_at;
+
+// When the service of a customer ends after `arrival`; missed once its window has closed, with a penalty or without.
+pub fn served_at(arrival: f64, customer: Customer) -> Left
+    ensures { λ r. ⌜ r ≡ served-at arrival customer ⌝ }
+{
+    let window = customer.time_window;
+    let Window::Is(tw) = window else {
+        return Left::At(arrival + customer.service_duration);
+    };
+    if arrival > tw.due {
+        return Left::Missed;
+    }
+    let start = arrival + tw.waiting_time(arrival);
+    Left::At(start + customer.service_duration)
+}
+
+// The drive from `prev`, left at `time`, to c and the service there.
+fn leave(
+    time: f64,
+    prev: usize,
+    c: usize,
+    n: usize,
+    distances: &[f64],
+    times: &[f64],
+    service: &[f64],
+    ready: &[f64],
+    due: &[f64],
+    penalty: &[f64],
+    flags: &[u8],
+) -> Left
+    requires { ⌜ Fit (customers (now service) (now ready) (now due) (now penalty) (now flags)) (matrix n (now distances) (now times)) ⌝ }
+    requires { ⌜ (prev < n) × (c < n) ⌝ }
+    ensures { λ r. ⌜ r ≡ leave (customers (now (service .entry)) (now (ready .entry)) (now (due .entry)) (now (penalty .entry)) (now (flags .entry)))
+        (matrix n (now (distances .entry)) (now (times .entry))) time prev c ⌝ }
+{
+    let arrival = time + travel_time(distances, times, n, prev, c);
+    let customer = customer_at(c, service, ready, due, penalty, flags);
+    served_at(arrival, customer)
+}
+
+// The time each stop of a route is left goes to the first cells; false where one is reached after its window closes.
+pub fn departures(
+    out: &mut [f64],
+    route: &[u16],
+    depot: usize,
+    n: usize,
+    distances: &[f64],
+    times: &[f64],
+    service: &[f64],
+    ready: &[f64],
+    due: &[f64],
+    penalty: &[f64],
+    flags: &[u8],
+) -> bool
+    requires { ⌜ Fit (customers (now service) (now ready) (now due) (now penalty) (now flags)) (matrix n (now distances) (now times)) ⌝ }
+    requires { ⌜ (depot < n) × Stops n (now route) × (length (now route) ≤ length (now out)) ⌝ }
+    ensures { λ r. ⌜ departures (customers (now (service .entry)) (now (ready .entry)) (now (due .entry)) (now (penalty .entry)) (now (flags .entry)))
+        (matrix n (now (distances .entry)) (now (times .entry))) depot (now (route .entry))
+        ≡ told r (take (length (now (route .entry))) (now (out .exit))) ⌝ }
+{
+    let mut time = 0.0;
+    let mut prev = depot;
+    let mut i = 0;
+    while i < route.len() {
+        let c = route[i] as usize;
+        let done = leave(
+            time,
+            prev,
+            c,
+            n,
+            distances,
+            times,
+            service,
+            ready,
+            due,
+            penalty,
+            flags,
+        );
+        let Left::At(left) = done else {
+            return false;
+        };
+        out[i] = left;
+        time = left;
+        prev = c;
+        i += 1;
+    }
+    true
+}
+
+// When service may start at the earliest, where there is a window.
+fn earliest_start(window: Window) -> f64
+    ensures { λ r. ⌜ r ≡ earliest-start window ⌝ }
+{
+    match window {
+        Window::None => -infinity(),
+        Window::Is(tw) => tw.ready,
+    }
+}
+
+// When service may start at the latest, where there is a window.
+fn latest_start(window: Window) -> f64
+    ensures { λ r. ⌜ r ≡ latest-start window ⌝ }
+{
+    match window {
+        Window::None => infinity(),
+        Window::Is(tw) => tw.due,
+    }
+}
+
+// How late a stop may be reached where its service has to start by `start_by`: no arrival is in time where it opens after that.
+fn latest_in(start_by: f64, window: Window) -> f64
+    ensures { λ r. ⌜ r ≡ latest-in «start_by» window ⌝ }
+{
+    if earliest_start(window) > start_by {
+        return -infinity();
+    }
+    min(latest_start(window), start_by)
+}
+
+// How late c may be reached where the next stop is to be reached by `by`.
+fn latest_arrival(
+    by: f64,
+    c: usize,
+    next: usize,
+    n: usize,
+    distances: &[f64],
+    times: &[f64],
+    service: &[f64],
+    ready: &[f64],
+    due: &[f64],
+    penalty: &[f64],
+    flags: &[u8],
+) -> f64
+    requires { ⌜ Fit (customers (now service) (now ready) (now due) (now penalty) (now flags)) (matrix n (now distances) (now times)) ⌝ }
+    requires { ⌜ (c < n) × (next < n) ⌝ }
+    ensures { λ r. ⌜ r ≡ latest-arrival (matrix n (now (distances .entry)) (now (times .entry)))
+        (customer-at (customers (now (service .entry)) (now (ready .entry)) (now (due .entry)) (now (penalty .entry)) (now (flags .entry))) c) c next by ⌝ }
+{
+    let travel = travel_time(distances, times, n, c, next);
+    let customer = customer_at(c, service, ready, due, penalty, flags);
+    let start_by = by - travel - customer.service_duration;
+    let window = customer.time_window;
+    latest_in(start_by, window)
+}
+
+// The latest arrival at each stop of a route that lets it and every stop after it start in time goes to the first cells, from
+// the last to the first. The depot has no window: the last stop is bound by its own alone.
+pub fn latest_arrivals(
+    out: &mut [f64],
+    route: &[u16],
+    depot: usize,
+    n: usize,
+    distances: &[f64],
+    times: &[f64],
+    service: &[f64],
+    ready: &[f64],
+    due: &[f64],
+    penalty: &[f64],
+    flags: &[u8],
+)
+    requires { ⌜ Fit (customers (now service) (now ready) (now due) (now penalty) (now flags)) (matrix n (now distances) (now times)) ⌝ }
+    requires { ⌜ (depot < n) × Stops n (now route) × (length (now route) ≤ length (now out)) ⌝ }
+    ensures { λ _. ⌜ (take (length (now (route .entry))) (now (out .exit))
+        ≡ latest-arrivals (customers (now (service .entry)) (now (ready .entry)) (now (due .entry)) (now (penalty .entry)) (now (flags .entry)))
+        (matrix n (now (distances .entry)) (now (times .entry))) depot (now (route .entry)))
+        × (drop (length (now (route .entry))) (now (out .exit)) ≡ drop (length (now (route .entry))) (now (out .entry))) ⌝ }
+{
+    let mut by = infinity();
+    let mut next = depot;
+    let mut i = route.len();
+    while 0 < i {
+        i -= 1;
+        let c = route[i] as usize;
+        by = latest_arrival(
+            by,
+            c,
+            next,
+            n,
+            distances,
+            times,
+            service,
+            ready,
+            due,
+            penalty,
+            flags,
+        );
+        out[i] = by;
+        next = c;
+    }
+}
+
+// Whether an arrival is by a bound, with room for rounding. A bound of -infinity makes a NaN, and the answer is no.
+fn in_time(arrival: f64, bound: f64) -> bool
+    ensures { λ r. ⌜ r ≡ in-time arrival bound ⌝ }
+{
+    arrival <= bound + 1e-9 * max(abs(bound), 1.0)
+}
+
+// When the stop before `pos` is left.
+fn left_before(departures: &[f64], pos: usize) -> f64
+    requires { ⌜ pos ≤ length (now departures) ⌝ }
+    ensures { λ r. ⌜ r ≡ left-before (now (departures .entry)) pos ⌝ }
+{
+    if pos == 0 {
+        return 0.0;
+    }
+    departures[pos - 1]
+}
+
+// The stop at `pos`.
+fn stop_at(route: &[u16], pos: usize) -> usize
+    requires { ⌜ pos < length (now route) ⌝ }
+    ensures { λ r. ⌜ r ≡ getD (now (route .entry)) pos 0 ⌝ }
+{
+    route[pos] as usize
+}
+
+// The stop before `pos`, the depot at the front.
+fn prev_stop(depot: usize, route: &[u16], pos: usize) -> usize
+    requires { ⌜ pos ≤ length (now route) ⌝ }
+    ensures { λ r. ⌜ r ≡ prev-stop depot (now (route .entry)) pos ⌝ }
+{
+    if pos == 0 {
+        return depot;
+    }
+    stop_at(route, pos - 1)
+}
+
+// Whether the stop at `pos`, if there is one, is reached by its latest arrival from c, left at `left`.
+fn next_in_time(
+    left: f64,
+    route: &[u16],
+    latest: &[f64],
+    pos: usize,
+    c: usize,
+    n: usize,
+    distances: &[f64],
+    times: &[f64],
+) -> bool
+    requires { ⌜ Square (matrix n (now distances) (now times)) ⌝ }
+    requires { ⌜ (c < n) × Stops n (now route) × (length (now route) ≤ length (now latest)) ⌝ }
+    ensures { λ r. ⌜ r ≡ next-in-time (matrix n (now (distances .entry)) (now (times .entry))) (now (route .entry)) (now (latest .entry)) pos c left ⌝ }
+{
+    if pos < route.len() {
+        let next = stop_at(route, pos);
+        let arrival = left + travel_time(distances, times, n, c, next);
+        return in_time(arrival, latest[pos]);
+    }
+    true
+}
+
+// Whether c, put in at `pos` of a route that is left at `departures` and allows `latest` arrivals, may keep every window: its own,
+// and the next stop is still reached by its latest arrival. The first cells of the two are read, one for each stop.
+pub fn may_fit(
+    route: &[u16],
+    departures: &[f64],
+    latest: &[f64],
+    pos: usize,
+    c: usize,
+    depot: usize,
+    n: usize,
+    distances: &[f64],
+    times: &[f64],
+    service: &[f64],
+    ready: &[f64],
+    due: &[f64],
+    penalty: &[f64],
+    flags: &[u8],
+) -> bool
+    requires { ⌜ Fit (customers (now service) (now ready) (now due) (now penalty) (now flags)) (matrix n (now distances) (now times)) ⌝ }
+    requires { ⌜ (depot < n) × (c < n) × Stops n (now route) × (pos ≤ length (now route))
+        × (length (now route) ≤ length (now departures)) × (length (now route) ≤ length (now latest)) ⌝ }
+    ensures { λ r. ⌜ r ≡ may-fit (customers (now (service .entry)) (now (ready .entry)) (now (due .entry)) (now (penalty .entry)) (now (flags .entry)))
+        (matrix n (now (distances .entry)) (now (times .entry))) depot (now (route .entry))
+        (take (length (now (route .entry))) (now (departures .entry))) (take (length (now (route .entry))) (now (latest .entry))) pos c ⌝ }
+{
+    let before = left_before(departures, pos);
+    let prev = prev_stop(depot, route, pos);
+    let done = leave(
+        before,
+        prev,
+        c,
+        n,
+        distances,
+        times,
+        service,
+        ready,
+        due,
+        penalty,
+        flags,
+    );
+    let Left::At(left) = done else {
+        return false;
+    };
+    next_in_time(left, route, latest, pos, c, n, distances, times)
+}
