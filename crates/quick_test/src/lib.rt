@@ -14,6 +14,7 @@ use floats::abs;
 use floats::infinity;
 use floats::max;
 use floats::min;
+use local_search::route::prev_stop;
 use models::customer::Customer;
 use models::customer::Window;
 use models::customer::customer_at;
@@ -232,17 +233,6 @@ fn stop_at(route: &[u16], pos: usize) -> usize
     ensures { λ r. ⌜ r ≡ getD (now (route .entry)) pos 0 ⌝ }
 {
     route[pos] as usize
-}
-
-// The stop before `pos`, the depot at the front.
-fn prev_stop(depot: usize, route: &[u16], pos: usize) -> usize
-    requires { ⌜ pos ≤ length (now route) ⌝ }
-    ensures { λ r. ⌜ r ≡ prev-stop depot (now (route .entry)) pos ⌝ }
-{
-    if pos == 0 {
-        return depot;
-    }
-    stop_at(route, pos - 1)
 }
 
 // Whether the stop at `pos`, if there is one, is reached by its latest arrival from c, left at `left`.
