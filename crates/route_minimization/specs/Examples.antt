@@ -17,7 +17,6 @@ use Rattle.plan.specs.Plan.{Plan}
 use Rattle.local_search.specs.Feasible.{feasible}
 use Rattle.local_search.specs.Rounds.{Counts}
 use Rattle.quick_test.specs.Quick.{departures, latest-arrivals, may-fit}
-use Rattle.route_minimization.specs.Perturb.{move}
 use Rattle.route_minimization.specs.Minimize.{Allowance, more, turn, empty-into, minimize-routes}
 use Rattle.route_minimization.specs.Opened.{opened}
 
@@ -85,23 +84,6 @@ fresh-failures : empty-into (with 5 50 (1 ∷ [])) (loads 4 6 9) two-routes (3 �
     ≡ record { plan = some ((3 ∷ []) ∷ (1 ∷ 2 ∷ []) ∷ []); counts = counted 5 500 }
 unfolding opened loads two-routes
 fresh-failures = refl
-
--- ---- moves between the routes of stops 1 and 2
-
--- an even third word: the stops are exchanged
-exchanged : move (sheet NoLimit) (0 ∷ []) (record { routes = two-routes; draws = 0 }) ≡ record { routes = (2 ∷ []) ∷ (1 ∷ []) ∷ []; draws = 5 }
-unfolding opened sheet two-routes
-exchanged = refl
-
--- a tail swap that empties a route is dropped after its five draws
-not-emptied : move (sheet NoLimit) (0 ∷ 0 ∷ 1 ∷ 0 ∷ 1 ∷ []) (record { routes = two-routes; draws = 0 }) ≡ record { routes = two-routes; draws = 5 }
-unfolding opened sheet two-routes
-not-emptied = refl
-
--- a route that is empty: two draws
-two-draws : move (sheet NoLimit) (0 ∷ []) (record { routes = (1 ∷ 2 ∷ []) ∷ [] ∷ []; draws = 0 }) ≡ record { routes = (1 ∷ 2 ∷ []) ∷ [] ∷ []; draws = 2 }
-unfolding opened sheet
-two-draws = refl
 
 -- ---- the quick test is no mere shortcut
 

@@ -14,9 +14,9 @@ use Rattle.plan.specs.Plan.{Plan, route, put-in}
 use Rattle.local_search.specs.Options.{bind, then-some}
 use Rattle.local_search.specs.Route.{Insertion, cost}
 use Rattle.local_search.specs.Rounds.{Counts, Tried, Result, reduce}
-use Rattle.route_minimization.specs.Cheapest.{cheapest}
-use Rattle.route_minimization.specs.Eject.{Ejection, eject, make-room, gone}
-use Rattle.route_minimization.specs.Perturb.{perturb}
+use Rattle.insertion.specs.Cheapest.{cheapest}
+use Rattle.ejection.specs.Eject.{Ejection, eject, make-room, gone}
+use Rattle.perturbation.specs.Perturb.{perturb}
 
 -- what a call may use: the step limit M, the clock's K, the draw tape
 pub record Allowance : Type 0 where

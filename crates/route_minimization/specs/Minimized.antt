@@ -22,11 +22,12 @@ use Rattle.local_search.specs.Route.{cost}
 use Rattle.local_search.specs.Feasible.{feasible}
 use Rattle.local_search.specs.Rounds.{Counts, Tried, Result, reduce}
 use Rattle.local_search.specs.Reduced.{Better, Bounded, triangle, Ended, reduce-ended}
-use Rattle.route_minimization.specs.Cheapest.{cheapest}
-use Rattle.route_minimization.specs.Eject.{Ejection, kept, eject, into, make-room, gone}
+use Rattle.insertion.specs.Cheapest.{cheapest}
+use Rattle.ejection.specs.Eject.{Ejection, kept, eject, into, make-room, gone}
 use Rattle.route_minimization.specs.Minimize.{Allowance, State, at-limit, run-pool, empty-into, if-cheaper, attempt, minimize-routes}
-use Rattle.route_minimization.specs.Found.{insert-non-empty, Inserts, cheapest-found, Ejects, ejects-count, eject-found}
-use Rattle.route_minimization.specs.Moves.{Moves, perturb-rule, perturb-draws}
+use Rattle.insertion.specs.Inserted.{insert-non-empty, Inserts, cheapest-found}
+use Rattle.ejection.specs.Ejected.{Ejects, ejects-count, eject-found}
+use Rattle.perturbation.specs.Moves.{Moves, perturb-rule, perturb-draws}
 use Rattle.route_minimization.specs.Turns.{Then, turn-rule, pool-rule}
 
 -- ---- steps and draws of an attempt

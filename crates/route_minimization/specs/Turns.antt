@@ -13,9 +13,9 @@ use Rattle.models.specs.Problem.{Problem}
 use Rattle.plan.specs.Plan.{put-in}
 use Rattle.local_search.specs.Route.{Insertion}
 use Rattle.local_search.specs.Rounds.{Counts, Tried}
-use Rattle.route_minimization.specs.Cheapest.{cheapest}
-use Rattle.route_minimization.specs.Eject.{Ejection, eject, make-room, gone}
-use Rattle.route_minimization.specs.Perturb.{perturb}
+use Rattle.insertion.specs.Cheapest.{cheapest}
+use Rattle.ejection.specs.Eject.{Ejection, eject, make-room, gone}
+use Rattle.perturbation.specs.Perturb.{perturb}
 use Rattle.route_minimization.specs.Minimize.{Allowance, State, Turn, stop, more, failed, counted, after-eject, after-cheapest, turn, turned, at-limit, run-pool}
 
 -- what must hold after a turn: O of what it stops with, or I of the state that it goes on with

@@ -15,7 +15,7 @@ use Rattle.local_search.specs.Options.{or-else}
 use Rattle.local_search.specs.Route.{insertion-cost}
 use Rattle.local_search.specs.Feasible.{has-room}
 use Rattle.quick_test.specs.Quick.{Times, times}
-use Rattle.route_minimization.specs.Cheapest.{may-go-in}
+use Rattle.insertion.specs.Cheapest.{may-go-in}
 
 -- ---- who leaves: the stops at i and j of a route, i ≤ j; one stop where they are the same
 

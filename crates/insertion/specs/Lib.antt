@@ -1,0 +1,5 @@
+-- The cheapest place for a stop. A file uses only files above it in this list.
+-- the search over routes and positions
+pub mod Cheapest
+-- what it finds lies in the plan and is feasible
+pub mod Inserted

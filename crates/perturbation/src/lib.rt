@@ -1,0 +1,2 @@
+// The random moves after an ejection (local_search/route_minimization.rs, `Pool::perturb`).
+// The definitions and their laws are in specs/.
