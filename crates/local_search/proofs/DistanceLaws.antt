@@ -14,14 +14,15 @@ use mir.Val.{Fits}
 use borrow.Author.Needs.{needs}
 use borrow.Author.Tests.{eqb-false, ltb-true}
 use Rattle.floats.specs.Binary64.{_⊕_, _⊖_, 0f}
-use Rattle.laws.specs.All.{All, all-get}
+use Rattle.laws.specs.All.{All}
 use Rattle.laws.specs.Loops.{foldl, fold-more, fold-end}
 use Rattle.models.specs.declared.vehicle.Vehicle.{Vehicle}
 use Rattle.models.specs.Vehicle.{fixed-cost-in-distance}
 use Rattle.models.specs.Problem.{DistanceMatrix, matrix, of-distances, Stops}
 use Rattle.distance.specs.Matrix.{get, cell}
-use Rattle.plan.specs.Plan.{Lent, split, route, total, offset}
-use Rattle.plan.specs.Slices.{length-split, offset-more, route-within, route-part}
+use Rattle.plan.specs.Plan.{Lent, split}
+use Rattle.plan.specs.Slices.{length-split}
+use Rattle.local_search.proofs.VisitLaws.{Visiting, visit-start, part-is, visit-more, visit-laws}
 use Rattle.local_search.specs.Route.{legs, route-distance, prev-stop, next-stop, insertion-cost, cost}
 
 -- ---- a route: what has come so far, and the legs that are left
@@ -121,48 +122,27 @@ pub record Costing (n : ℕ) (distances : List Float) (depot : ℕ) (fixed : Flo
   pub few : n ≤ 256
   pub cells : length distances ≡ n * n
   pub ends : depot < n
-  pub lent : Lent lengths stops
-  pub routes : All (Stops n) (split lengths stops)
-  pub within : k ≤ length lengths
-  pub begins : at ≡ offset lengths k
+  pub visit : Visiting n lengths stops at k
   pub same : foldl (adds n distances depot fixed) 0f (split lengths stops) ≡ foldl (adds n distances depot fixed) sum (drop k (split lengths stops))
 
 module _ (n : ℕ) (distances : List Float) (depot : ℕ) (fixed : Float) (lengths stops : List ℕ) where
   pub costing-start : n ≤ 256 → length distances ≡ n * n → depot < n → Lent lengths stops → All (Stops n) (split lengths stops)
       → Costing n distances depot fixed lengths stops 0f 0 0
-  unfolding total
-  costing-start f c d l r = record { few = f; cells = c; ends = d; lent = l; routes = r; within = omega arith; begins = refl; same = refl }
+  costing-start f c d l r = record { few = f; cells = c; ends = d; visit = visit-start n lengths stops l r; same = refl }
 
-  module _ (sum : Float) (at k : ℕ) (g : Costing n distances depot fixed lengths stops sum at k) (h : k < length lengths) where
-    pub part-end : at + getD lengths k 0 ≤ length stops
-    part-end = omega (arith, g .begins, g .lent .inside, route-within lengths k h)
-
-    pub part-end-fits : Fits w64 (at + getD lengths k 0)
-    part-end-fits = record { fits = omega (arith, part-end, g .lent .few) }
-
-    pub part-length-fits : Fits w64 (getD lengths k 0)
-    part-length-fits = record { fits = omega (arith, part-end, g .lent .few) }
-
-    pub part-stops : Stops n (take (at + getD lengths k 0 - at) (drop at stops))
-    part-stops =
-        rw (route-part lengths stops k at (at + getD lengths k 0) (g .begins) refl)
-        (all-get k [] (g .routes) (rw (length-split lengths stops) h))
-
-    pub costing-more : (x : Float) → x ≡ route-distance (matrix n distances []) depot (take (at + getD lengths k 0 - at) (drop at stops))
-        → Costing n distances depot fixed lengths stops (sum ⊕ (x ⊕ fixed)) (at + getD lengths k 0) (k + 1)
-    costing-more x e =
-        record {
-          few = g .few;
-          cells = g .cells;
-          ends = g .ends;
-          lent = g .lent;
-          routes = g .routes;
-          within = omega arith;
-          begins = rw (g .begins) (sym (offset-more lengths k h));
-          same =
-              rw (e, route-part lengths stops k at (at + getD lengths k 0) (g .begins) refl)
-              (fold-more (adds n distances depot fixed) [] (split lengths stops) 0f sum k (g .same) (rw (length-split lengths stops) h));
-        }
+  pub costing-more : (sum : Float) (at k : ℕ) → Costing n distances depot fixed lengths stops sum at k → k < length lengths
+      → (x : Float) → x ≡ route-distance (matrix n distances []) depot (take (at + getD lengths k 0 - at) (drop at stops))
+      → Costing n distances depot fixed lengths stops (sum ⊕ (x ⊕ fixed)) (at + getD lengths k 0) (k + 1)
+  costing-more sum at k g h x e =
+      record {
+        few = g .few;
+        cells = g .cells;
+        ends = g .ends;
+        visit = visit-more n lengths stops at k (g .visit) h;
+        same =
+            rw (e, part-is n lengths stops at k (g .visit) h)
+            (fold-more (adds n distances depot fixed) [] (split lengths stops) 0f sum k (g .same) (rw (length-split lengths stops) h));
+      }
 
 pub costing-end : (n : ℕ) (distances : List Float) (v : Vehicle) (fixed : Float) (lengths stops : List ℕ) (sum : Float) (at k : ℕ)
     → Costing n distances (v .«depot_id») fixed lengths stops sum at k → fixed ≡ fixed-cost-in-distance v → length lengths ≤ k
@@ -172,4 +152,4 @@ costing-end n distances v fixed lengths stops sum at k g e h =
     fold-end (adds n distances (v .«depot_id») fixed) [] (split lengths stops) 0f sum k (g .same) (rw (length-split lengths stops) h)
     ∙ ap (λ (x : Float). foldl (adds n distances (v .«depot_id») x) 0f (split lengths stops)) e
 
-pub ruleset costing-laws = (needs, costing-start, part-end, part-end-fits, part-length-fits, part-stops, costing-more, costing-end)
+pub ruleset costing-laws = (needs, visit-laws, costing-start, costing-more, costing-end)

@@ -1,4 +1,6 @@
 -- What the functions' proofs lean on.
+-- a loop over the routes of a plan
+pub mod VisitLaws
 -- the distance of a route, an insertion, the cost of a plan
 pub mod DistanceLaws
 -- loads, room, and the check where it is needed

@@ -9,6 +9,8 @@ pub mod Feasible
 pub mod Rounds
 -- loads, and the check where it is not needed
 pub mod RouteLaws
+-- a plan over n places
+pub mod Planned
 -- a rule of proof for the attempts of a round, and one for the rounds
 pub mod RoundRules
 -- what an accepted attempt keeps, the rounds keep

@@ -63,3 +63,9 @@ pub record Stops (n : ℕ) (route : List ℕ) : Type 0 where
 pub record Demands (n : ℕ) (demand : List ℤ) : Type 0 where
   pub cells : length demand ≡ n
   pub each : (k : ℕ) → natAbs (getD demand k (pos 0)) ≤ 1_000_000
+
+-- what the searches ask of a problem: rows 1, 2 and 4 of the table leave it so
+pub record Admitted (p : Problem) : Type 0 where
+  pub fit : Fit (p .places) (p .roads)
+  pub demands : Demands (p .roads .size) (p .demand)
+  pub depot-in : depot p < p .roads .size

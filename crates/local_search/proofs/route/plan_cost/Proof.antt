@@ -2,7 +2,8 @@
 use Prim.Native.Nat.{_-_}
 use borrow.Author.Needs.{needs}
 use lib.ListN.{length}
-use Rattle.local_search.proofs.DistanceLaws.{Costing, part-end, part-stops, costing-laws}
+use Rattle.local_search.proofs.VisitLaws.{part-end, part-stops}
+use Rattle.local_search.proofs.DistanceLaws.{Costing, costing-laws}
 use Rattle.local_search.proofs.route.plan_cost.Statement.{statement}
 use Rattle.local_search.proofs.route.plan_cost.Tie as tie
 
