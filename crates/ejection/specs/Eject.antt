@@ -16,6 +16,9 @@ use Rattle.local_search.specs.Route.{insertion-cost}
 use Rattle.local_search.specs.Feasible.{has-room}
 use Rattle.quick_test.specs.Quick.{Times, times}
 use Rattle.insertion.specs.Cheapest.{may-go-in}
+use Rattle.ejection.specs.declared.Ejection.{Ejection}
+use Rattle.ejection.specs.declared.Best.{Best}
+use Rattle.ejection.specs.declared.Best.the-variants.{Nothing, At}
 
 -- ---- who leaves: the stops at i and j of a route, i ≤ j; one stop where they are the same
 
@@ -37,14 +40,10 @@ failure-sum failures r i j = cond (eqb i j) (failures-at failures r i) (failures
 
 -- ---- the best so far
 
--- `Ejection`: its key is (failed, cost)
-pub record Ejection : Type 0 where
-  pub failed : ℕ
-  pub cost : Float
-  pub route : ℕ
-  pub first : ℕ
-  pub second : ℕ
-  pub pos : ℕ
+-- the best so far, as the code keeps it; the key of an `Ejection` is (failed, cost)
+abbrev pub chosen : Best → Option Ejection
+chosen Nothing = none
+chosen (At e) = some e
 
 -- `penalty > b.key.0`
 abbrev pub fails-more : ℕ → Option Ejection → Bool

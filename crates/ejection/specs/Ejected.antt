@@ -22,7 +22,8 @@ use Rattle.local_search.specs.Feasible.{has-room, feasible}
 use Rattle.quick_test.specs.Quick.{Times, times}
 use Rattle.insertion.specs.Cheapest.{may-go-in}
 use Rattle.insertion.specs.Inserted.{may-go-in-feasible}
-use Rattle.ejection.specs.Eject.{kept, ejected, failure-sum, Ejection, fails-more, outranks, try-in-kept, try-kept, try-out, try-one, try-two, eject-one, eject-two, eject, into, gone}
+use Rattle.ejection.specs.declared.Ejection.{Ejection}
+use Rattle.ejection.specs.Eject.{kept, ejected, failure-sum, fails-more, outranks, try-in-kept, try-kept, try-out, try-one, try-two, eject-one, eject-two, eject, into, gone}
 
 -- the stops that stay and those that leave are those of the route
 pub kept-count : (x i j : ℕ) (r : List ℕ) → i ≤ j → j < length r → count x (kept i j r) + count x (ejected i j r) ≡ count x r

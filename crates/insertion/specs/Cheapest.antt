@@ -9,7 +9,8 @@ use Rattle.laws.specs.Edits.{insert-at}
 use Rattle.laws.specs.Loops.{loop}
 use Rattle.models.specs.Problem.{Problem, depot}
 use Rattle.plan.specs.Plan.{Plan, route}
-use Rattle.local_search.specs.Route.{insertion-cost, Insertion}
+use Rattle.local_search.specs.declared.route.Insertion.{Insertion}
+use Rattle.local_search.specs.Route.{insertion-cost}
 use Rattle.local_search.specs.Feasible.{constrained, has-room, feasible}
 use Rattle.quick_test.specs.Quick.{may-fit, Times, times}
 

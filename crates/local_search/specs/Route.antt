@@ -2,6 +2,7 @@
 use Prim.Native.Nat.{ℕ, _-_}
 use mathlib.Core.List.{List, [], _∷_}
 use mathlib.Core.Bool.{cond}
+use mathlib.Core.Option.{Option, none, some}
 use lib.ListN.{length, getD}
 use lib.Dec.{eqb, ltb}
 use lib.Ieee.{Float}
@@ -11,6 +12,9 @@ use Rattle.models.specs.Vehicle.{fixed-cost-in-distance}
 use Rattle.models.specs.Problem.{DistanceMatrix, Problem}
 use Rattle.distance.specs.Matrix.{get, scale}
 use Rattle.plan.specs.Plan.{Plan}
+use Rattle.local_search.specs.declared.route.Insertion.{Insertion}
+use Rattle.local_search.specs.declared.route.Best.{Best}
+use Rattle.local_search.specs.declared.route.Best.the-variants.{Nothing, At}
 
 -- the way that has come `dist` to prev and goes on over the stops to the depot
 unfoldable pub legs : DistanceMatrix → ℕ → Float → ℕ → List ℕ → Float
@@ -40,11 +44,10 @@ insertion-cost m depot route pos c =
     let next = next-stop depot route pos in
     get m prev c ⊕ get m c next ⊖ get m prev next
 
--- an insertion that a search has found: what it costs, the route, the position
-pub record Insertion : Type 0 where
-  pub cost : Float
-  pub route : ℕ
-  pub pos : ℕ
+-- the best insertion so far, as the code keeps it
+abbrev pub chosen : Best → Option Insertion
+chosen Nothing = none
+chosen (At x) = some x
 
 -- the closure `cost` of `minimize_routes`: "cost sums route distance + fixed in route order". The sum starts at 0.0; Rust's starts at −0.0,
 -- which no sum of a route or more shows (`cost-start`).

@@ -11,6 +11,19 @@ use distance::get;
 use distance::scale;
 use models::vehicle::Vehicle;
 
+// An insertion that a search has found: what it costs, the route, the position.
+pub struct Insertion {
+    pub cost: f64,
+    pub route: usize,
+    pub pos: usize,
+}
+
+// The best insertion so far, if there is one.
+pub enum Best {
+    Nothing,
+    At(Insertion),
+}
+
 // The distance of the route depot, stops, depot; 0 where there are no stops.
 pub fn route_distance(route: &[u16], depot: usize, n: usize, distances: &[f64]) -> f64
     requires { ⌜ (n ≤ 256) × (length (now distances) ≡ n * n) ⌝ }

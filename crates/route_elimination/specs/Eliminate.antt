@@ -19,7 +19,8 @@ use Rattle.evaluation.specs.Eval.{effective-cost}
 use Rattle.evaluation.specs.Check.{has-soft-windows}
 use Rattle.plan.specs.Plan.{Plan, route, put-in}
 use Rattle.local_search.specs.Options.{bind, then-some}
-use Rattle.local_search.specs.Route.{route-distance, gain-floor, insertion-cost, Insertion}
+use Rattle.local_search.specs.declared.route.Insertion.{Insertion}
+use Rattle.local_search.specs.Route.{route-distance, gain-floor, insertion-cost}
 use Rattle.local_search.specs.Feasible.{demand-at, has-room, checked}
 use Rattle.local_search.specs.Rounds.{Counts, Tried, reduce}
 

@@ -21,7 +21,7 @@ use Rattle.plan.specs.Plan.{Plan, route, non-empty, drop-empty, occurs}
 use Rattle.plan.specs.Routes.{length-put-in, occurs-put-in, all-put-in, occurs-erase}
 use Rattle.plan.specs.Dropped.{occurs-drop-empty}
 use Rattle.local_search.specs.Options.{bind, Each, each-then-some, each-bind, each-map}
-use Rattle.local_search.specs.Route.{Insertion}
+use Rattle.local_search.specs.declared.route.Insertion.{Insertion}
 use Rattle.local_search.specs.Feasible.{has-room, checked, feasible}
 use Rattle.local_search.specs.RouteLaws.{has-room-fits}
 use Rattle.local_search.specs.Rounds.{Counts, reduce}

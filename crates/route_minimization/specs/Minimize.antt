@@ -12,10 +12,12 @@ use Rattle.models.specs.Problem.{Problem}
 use Rattle.evaluation.specs.Check.{has-soft-windows}
 use Rattle.plan.specs.Plan.{Plan, route, put-in}
 use Rattle.local_search.specs.Options.{bind, then-some}
-use Rattle.local_search.specs.Route.{Insertion, cost}
+use Rattle.local_search.specs.declared.route.Insertion.{Insertion}
+use Rattle.local_search.specs.Route.{cost}
 use Rattle.local_search.specs.Rounds.{Counts, Tried, Result, reduce}
 use Rattle.insertion.specs.Cheapest.{cheapest}
-use Rattle.ejection.specs.Eject.{Ejection, eject, make-room, gone}
+use Rattle.ejection.specs.declared.Ejection.{Ejection}
+use Rattle.ejection.specs.Eject.{eject, make-room, gone}
 use Rattle.perturbation.specs.Perturb.{perturb}
 
 -- what a call may use: the step limit M, the clock's K, the draw tape

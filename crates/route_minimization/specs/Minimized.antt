@@ -23,7 +23,8 @@ use Rattle.local_search.specs.Feasible.{feasible}
 use Rattle.local_search.specs.Rounds.{Counts, Tried, Result, reduce}
 use Rattle.local_search.specs.Reduced.{Better, Bounded, triangle, Ended, reduce-ended}
 use Rattle.insertion.specs.Cheapest.{cheapest}
-use Rattle.ejection.specs.Eject.{Ejection, kept, eject, into, make-room, gone}
+use Rattle.ejection.specs.declared.Ejection.{Ejection}
+use Rattle.ejection.specs.Eject.{kept, eject, into, make-room, gone}
 use Rattle.route_minimization.specs.Minimize.{Allowance, State, at-limit, run-pool, empty-into, if-cheaper, attempt, minimize-routes}
 use Rattle.insertion.specs.Inserted.{insert-non-empty, Inserts, cheapest-found}
 use Rattle.ejection.specs.Ejected.{Ejects, ejects-count, eject-found}

@@ -11,10 +11,11 @@ use lib.Dec.{leb}
 use Rattle.laws.specs.Loops.{cond-rule}
 use Rattle.models.specs.Problem.{Problem}
 use Rattle.plan.specs.Plan.{put-in}
-use Rattle.local_search.specs.Route.{Insertion}
+use Rattle.local_search.specs.declared.route.Insertion.{Insertion}
 use Rattle.local_search.specs.Rounds.{Counts, Tried}
 use Rattle.insertion.specs.Cheapest.{cheapest}
-use Rattle.ejection.specs.Eject.{Ejection, eject, make-room, gone}
+use Rattle.ejection.specs.declared.Ejection.{Ejection}
+use Rattle.ejection.specs.Eject.{eject, make-room, gone}
 use Rattle.perturbation.specs.Perturb.{perturb}
 use Rattle.route_minimization.specs.Minimize.{Allowance, State, Turn, stop, more, failed, counted, after-eject, after-cheapest, turn, turned, at-limit, run-pool}
 
