@@ -1,0 +1,3 @@
+-- What the functions' proofs lean on.
+-- ranks, failures, the kept part
+pub mod EjectLaws
