@@ -75,10 +75,16 @@ kept-two i j r h g =
       drop-take (suc i) j r,
     )
 
-pub record Ejects (p : Problem) (routes : Plan) (c : ℕ) (e : Ejection) : Type 0 where
+-- an ejection lies in a plan
+pub record Inside (routes : Plan) (e : Ejection) : Type 0 where
   pub there : e .route < length routes
   pub in-order : e .first ≤ e .second
   pub within : e .second < length (route (e .route) routes)
+  pub position : e .pos ≤ length (kept (e .first) (e .second) (route (e .route) routes))
+
+-- and the route that it makes for c is feasible
+pub record Ejects (p : Problem) (routes : Plan) (c : ℕ) (e : Ejection) : Type 0 where
+  pub inside : Inside routes e
   pub feasible-with : feasible p (into routes c e) ≡ true
 
 -- the route made and the stops ejected are the popped stop and the route's own
@@ -87,7 +93,7 @@ pub ejects-count : (p : Problem) (routes : Plan) (c : ℕ) (e : Ejection) → Ej
 unfolding count
 ejects-count p routes c e h x =
     let r = route (e .route) routes in
-    omega (arith, count-insert-at x (e .pos) c (kept (e .first) (e .second) r), kept-count x (e .first) (e .second) r (h .in-order) (h .within))
+    omega (arith, count-insert-at x (e .pos) c (kept (e .first) (e .second) r), kept-count x (e .first) (e .second) r (h .inside .in-order) (h .inside .within))
 
 module _ (p : Problem) (routes : Plan) (c : ℕ) (failures : List ℕ) where
   abbrev Out : Option Ejection → Type 0
@@ -100,10 +106,10 @@ module _ (p : Problem) (routes : Plan) (c : ℕ) (failures : List ℕ) where
     kept-found n i j h g none best b = b
     kept-found n i j h g (some t) best b =
         let left = kept i j (route k routes) in
-        loop-rule (λ _. Out) (suc (length left)) (try-in-kept p c n k i j left t) (λ pos best _ b.
+        loop-rule (λ _. Out) (suc (length left)) (try-in-kept p c n k i j left t) (λ pos best pos-in b.
         cond-rule Out (outranks n (insertion-cost (p .roads) (depot p) left pos c) best)
         (λ _. cond-rule Out (may-go-in p left t pos c)
-        (λ e. record { there = k-in; in-order = h; within = g; feasible-with = may-go-in-feasible p left t pos c e })
+        (λ e. record { inside = record { there = k-in; in-order = h; within = g; position = omega arith }; feasible-with = may-go-in-feasible p left t pos c e })
         (λ _. b))
         (λ _. b)) b
 

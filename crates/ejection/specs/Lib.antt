@@ -5,3 +5,5 @@ pub mod Eject
 pub mod Asked
 -- what it finds lies in the plan and is feasible, and no stop is lost
 pub mod Ejected
+-- the ejection made on the plan and on the pool
+pub mod Made

@@ -91,7 +91,7 @@ module _ (p : Problem) (G : List ℕ → Type 0) (pass : (r : List ℕ) → feas
       let r = route (e .route) routes in
       record {
         number = ap suc (length-set routes (e .route) (into routes c e)) ∙ h .number;
-        places = λ s. omega (arith, occurs-set s routes (e .route) (into routes c e) (x .there), ejects-count p routes c e x s, count-append s (reverse (gone routes e)) rest, count-reverse s (gone routes e), h .places s);
+        places = λ s. omega (arith, occurs-set s routes (e .route) (into routes c e) (x .inside .there), ejects-count p routes c e x s, count-append s (reverse (gone routes e)) rest, count-reverse s (gone routes e), h .places s);
         kinds = all-set (e .route) (h .kinds) (pass (into routes c e) (x .feasible-with) (insert-non-empty (e .pos) c (kept (e .first) (e .second) r)));
       }
 
