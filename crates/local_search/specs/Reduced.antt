@@ -15,7 +15,8 @@ use Rattle.plan.specs.Plan.{Plan, lengths-of, non-empty, drop-empty, occurs}
 use Rattle.plan.specs.Order.{order}
 use Rattle.plan.specs.Dropped.{occurs-drop-empty}
 use Rattle.local_search.specs.Options.{Each, each-found}
-use Rattle.local_search.specs.Rounds.{Counts, Tried, Result, Attempt, try-each, try-all, or-end, rounds, reduce}
+use Rattle.local_search.specs.declared.rounds.Counts.{Counts}
+use Rattle.local_search.specs.Rounds.{Tried, Result, Attempt, try-each, try-all, or-end, rounds, reduce}
 use Rattle.local_search.specs.RoundRules.{try-rule, rounds-rule}
 
 -- what an accepted attempt makes of a plan: a route fewer, the same places, each route of the kind G

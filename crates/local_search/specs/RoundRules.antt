@@ -4,7 +4,8 @@ use mathlib.Core.Path.{_≡_, refl}
 use mathlib.Core.List.{List, [], _∷_}
 use mathlib.Core.Option.{Option, none, some}
 use Rattle.plan.specs.Plan.{Plan, drop-empty}
-use Rattle.local_search.specs.Rounds.{Counts, Tried, Result, Attempt, or-next, try-each, try-all, or-end, rounds}
+use Rattle.local_search.specs.declared.rounds.Counts.{Counts}
+use Rattle.local_search.specs.Rounds.{Tried, Result, Attempt, or-next, try-each, try-all, or-end, rounds}
 
 module _ (attempt : Attempt) where
   -- I holds of the routes left to try and the counts, before each attempt; O of the first attempt that is accepted, or of the end

@@ -5,11 +5,9 @@ use mathlib.Core.Option.{Option, none, some}
 use lib.ListN.{length}
 use Rattle.plan.specs.Plan.{Plan, lengths-of, drop-empty}
 use Rattle.plan.specs.Order.{order}
+use Rattle.local_search.specs.declared.rounds.Counts.{Counts}
 
--- "Steps are the pops counted; draws are the words taken, one taken again counted again.": of a call so far
-pub record Counts : Type 0 where
-  pub steps : ℕ
-  pub draws : ℕ
+-- `Counts` says: "Steps are the pops counted; draws are the words taken, one taken again counted again."
 
 -- an attempt's answer: the plan that it leaves, where it is accepted, and the counts after it
 pub record Tried : Type 0 where

@@ -2,3 +2,4 @@
 // The definitions and their laws are in specs/; the rounds of attempts are there too.
 pub mod feasible;
 pub mod route;
+pub mod rounds;

@@ -17,7 +17,8 @@ use Rattle.evaluation.specs.Check.{route-feasible}
 use Rattle.evaluation.specs.Bound.{lateness-bound}
 use Rattle.plan.specs.Plan.{Plan, Slices, split, written}
 use Rattle.local_search.specs.Route.{route-distance, gain-floor}
-use Rattle.local_search.specs.Rounds.{Counts, Result}
+use Rattle.local_search.specs.declared.rounds.Counts.{Counts}
+use Rattle.local_search.specs.Rounds.{Result}
 use Rattle.route_minimization.specs.Minimize.{Allowance, minimize-routes}
 use Rattle.route_elimination.specs.Eliminate.{eliminate-routes}
 use Rattle.planner.specs.Table.{Work, Inputs, refusal}

@@ -12,7 +12,7 @@ use Rattle.models.specs.Problem.{Problem}
 use Rattle.plan.specs.Plan.{Plan, Slices, drop-empty, occurs}
 use Rattle.local_search.specs.Route.{cost}
 use Rattle.local_search.specs.Feasible.{Sound}
-use Rattle.local_search.specs.Rounds.{Counts}
+use Rattle.local_search.specs.declared.rounds.Counts.{Counts}
 use Rattle.route_minimization.specs.Minimize.{Allowance}
 use Rattle.planner.specs.Table.{Work, Inputs, refusal}
 use Rattle.planner.specs.Calls.{Answer, refused, answered, Done, Reply, plan-in, public-minimise, public-eliminate}

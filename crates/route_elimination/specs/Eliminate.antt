@@ -22,7 +22,8 @@ use Rattle.local_search.specs.Options.{bind, then-some}
 use Rattle.local_search.specs.declared.route.Insertion.{Insertion}
 use Rattle.local_search.specs.Route.{route-distance, gain-floor, insertion-cost}
 use Rattle.local_search.specs.Feasible.{demand-at, has-room, checked}
-use Rattle.local_search.specs.Rounds.{Counts, Tried, reduce}
+use Rattle.local_search.specs.declared.rounds.Counts.{Counts}
+use Rattle.local_search.specs.Rounds.{Tried, reduce}
 
 -- ---- what a route is worth, and what an insertion costs
 

@@ -24,7 +24,8 @@ use Rattle.local_search.specs.Options.{bind, Each, each-then-some, each-bind, e
 use Rattle.local_search.specs.declared.route.Insertion.{Insertion}
 use Rattle.local_search.specs.Feasible.{has-room, checked, feasible}
 use Rattle.local_search.specs.RouteLaws.{has-room-fits}
-use Rattle.local_search.specs.Rounds.{Counts, reduce}
+use Rattle.local_search.specs.declared.rounds.Counts.{Counts}
+use Rattle.local_search.specs.Rounds.{reduce}
 use Rattle.local_search.specs.Reduced.{Better, Bounded, triangle, Ended, reduce-ended}
 use Rattle.route_elimination.specs.Eliminate.{worth, positions, candidates-in, candidates, nowhere, trial, first-passing, Moved, move-to, move-stop, moving, move-all, if-gained, without-route, attempt, eliminate-routes}
 

@@ -11,7 +11,8 @@ use Rattle.models.specs.declared.vehicle.Rest.the-variants.{None as NoRest}
 use Rattle.models.specs.declared.vehicle.Vehicle.{Vehicle}
 use Rattle.models.specs.Problem.{Problem, problem}
 use Rattle.plan.specs.Plan.{Plan}
-use Rattle.local_search.specs.Rounds.{Counts, Result}
+use Rattle.local_search.specs.declared.rounds.Counts.{Counts}
+use Rattle.local_search.specs.Rounds.{Result}
 use Rattle.route_minimization.specs.Minimize.{Allowance, minimize-routes}
 use Rattle.route_minimization.specs.Opened.{opened}
 

@@ -15,7 +15,7 @@ use Rattle.models.specs.declared.vehicle.Vehicle.{Vehicle}
 use Rattle.models.specs.Problem.{Problem, problem}
 use Rattle.plan.specs.Plan.{Plan}
 use Rattle.local_search.specs.Feasible.{feasible}
-use Rattle.local_search.specs.Rounds.{Counts}
+use Rattle.local_search.specs.declared.rounds.Counts.{Counts}
 use Rattle.quick_test.specs.Quick.{departures, latest-arrivals, may-fit}
 use Rattle.route_minimization.specs.Minimize.{Allowance, more, turn, empty-into, minimize-routes}
 use Rattle.route_minimization.specs.Opened.{opened}

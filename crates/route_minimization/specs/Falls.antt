@@ -21,7 +21,8 @@ use Rattle.plan.specs.Plan.{Plan, route, non-empty, drop-empty}
 use Rattle.local_search.specs.Options.{Each, each-found, each-then-some, each-bind, each-both}
 use Rattle.local_search.specs.Route.{cost}
 use Rattle.local_search.specs.RouteLaws.{cost-held}
-use Rattle.local_search.specs.Rounds.{Counts, Result, try-all, rounds, reduce}
+use Rattle.local_search.specs.declared.rounds.Counts.{Counts}
+use Rattle.local_search.specs.Rounds.{Result, try-all, rounds, reduce}
 use Rattle.local_search.specs.RoundRules.{rounds-rule}
 use Rattle.local_search.specs.Reduced.{Better, round-has}
 use Rattle.route_minimization.specs.Minimize.{Allowance, empty-into, if-cheaper, attempt, minimize-routes}

@@ -14,7 +14,8 @@ use Rattle.plan.specs.Plan.{Plan, route, put-in}
 use Rattle.local_search.specs.Options.{bind, then-some}
 use Rattle.local_search.specs.declared.route.Insertion.{Insertion}
 use Rattle.local_search.specs.Route.{cost}
-use Rattle.local_search.specs.Rounds.{Counts, Tried, Result, reduce}
+use Rattle.local_search.specs.declared.rounds.Counts.{Counts}
+use Rattle.local_search.specs.Rounds.{Tried, Result, reduce}
 use Rattle.insertion.specs.Cheapest.{cheapest}
 use Rattle.ejection.specs.declared.Ejection.{Ejection}
 use Rattle.ejection.specs.Eject.{eject, make-room, gone}
@@ -46,31 +47,31 @@ abbrev pub counted : Counts → ℕ → Counts
 counted n draws = record { steps = n .steps + 1; draws = draws }
 
 -- "None: the attempt fails. The ejected go onto the pool in route order. Then `perturb`"
-unfoldable pub after-eject : Allowance → Problem → State → ℕ → List ℕ → List ℕ → Option Ejection → Turn
-after-eject given p s c rest failures none = stop (failed (counted (s .counts) (s .counts .draws)))
-after-eject given p s c rest failures (some e) =
-    let d = perturb p (given .tape) (record { routes = make-room (s .routes) c e; draws = s .counts .draws }) in
+unfoldable pub after-eject : List ℕ → Problem → State → ℕ → List ℕ → List ℕ → Option Ejection → Turn
+after-eject tape p s c rest failures none = stop (failed (counted (s .counts) (s .counts .draws)))
+after-eject tape p s c rest failures (some e) =
+    let d = perturb p tape (record { routes = make-room (s .routes) c e; draws = s .counts .draws }) in
     more (record { routes = d .routes; pool = reverse (gone (s .routes) e) ++ rest; failures = failures; counts = counted (s .counts) (d .draws) })
 
 -- the popped stop c inserted; "Otherwise failures of the popped stop rise by 1 and one stop, or .. two, leave a route"
-unfoldable pub after-cheapest : Allowance → Problem → State → ℕ → List ℕ → Option Insertion → Turn
-after-cheapest given p s c rest (some best) =
+unfoldable pub after-cheapest : List ℕ → Problem → State → ℕ → List ℕ → Option Insertion → Turn
+after-cheapest tape p s c rest (some best) =
     more (record {
       routes = put-in (best .route) (best .pos) c (s .routes);
       pool = rest;
       failures = s .failures;
       counts = counted (s .counts) (s .counts .draws);
     })
-after-cheapest given p s c rest none =
+after-cheapest tape p s c rest none =
     let failures = set (s .failures) c (getD (s .failures) c 0 + 1) in
-    after-eject given p s c rest failures (eject p (s .routes) c failures)
+    after-eject tape p s c rest failures (eject p (s .routes) c failures)
 
 -- A turn of the loop of `empty_into` below the step limit. "The clock answers no to the first K askings of a call (K: u64), yes from then on.":
 -- each asking that is answered by no counts a step, and no step counts without one, so the clock says stop exactly if K steps are counted.
 unfoldable pub turn : Allowance → Problem → State → List ℕ → Turn
 turn given p s [] = stop (record { plan = some (s .routes); counts = s .counts })
 turn given p s (c ∷ rest) =
-    cond (leb (given .clock) (s .counts .steps)) (stop (failed (s .counts))) (after-cheapest given p s c rest (cheapest p (s .routes) c))
+    cond (leb (given .clock) (s .counts .steps)) (stop (failed (s .counts))) (after-cheapest (given .tape) p s c rest (cheapest p (s .routes) c))
 
 unfoldable pub turned : (State → Tried) → Turn → Tried
 turned on (stop t) = t

@@ -20,7 +20,8 @@ use Rattle.plan.specs.Dropped.{occurs-drop-empty}
 use Rattle.local_search.specs.Options.{Each, each-found, each-then-some, each-bind, each-map}
 use Rattle.local_search.specs.Route.{cost}
 use Rattle.local_search.specs.Feasible.{feasible}
-use Rattle.local_search.specs.Rounds.{Counts, Tried, Result, reduce}
+use Rattle.local_search.specs.declared.rounds.Counts.{Counts}
+use Rattle.local_search.specs.Rounds.{Tried, Result, reduce}
 use Rattle.local_search.specs.Reduced.{Better, Bounded, triangle, Ended, reduce-ended}
 use Rattle.insertion.specs.Cheapest.{cheapest}
 use Rattle.ejection.specs.declared.Ejection.{Ejection}

@@ -12,7 +12,8 @@ use Rattle.laws.specs.Loops.{cond-rule}
 use Rattle.models.specs.Problem.{Problem}
 use Rattle.plan.specs.Plan.{put-in}
 use Rattle.local_search.specs.declared.route.Insertion.{Insertion}
-use Rattle.local_search.specs.Rounds.{Counts, Tried}
+use Rattle.local_search.specs.declared.rounds.Counts.{Counts}
+use Rattle.local_search.specs.Rounds.{Tried}
 use Rattle.insertion.specs.Cheapest.{cheapest}
 use Rattle.ejection.specs.declared.Ejection.{Ejection}
 use Rattle.ejection.specs.Eject.{eject, make-room, gone}
@@ -55,11 +56,11 @@ module _ (given : Allowance) (p : Problem) where
       failures : List ℕ
       failures = set (s .failures) c (getD (s .failures) c 0 + 1)
 
-      ejecting : (o : Option Ejection) → eject p (s .routes) c failures ≡ o → Q (after-eject given p s c rest failures o)
+      ejecting : (o : Option Ejection) → eject p (s .routes) c failures ≡ o → Q (after-eject (given .tape) p s c rest failures o)
       ejecting none e = fail (counted (s .counts) (s .counts .draws)) (omega arith) (le-refl (s .counts .steps + 1)) refl
       ejecting (some x) e = out c rest failures x refl e
 
-      placing : (o : Option Insertion) → cheapest p (s .routes) c ≡ o → Q (after-cheapest given p s c rest o)
+      placing : (o : Option Insertion) → cheapest p (s .routes) c ≡ o → Q (after-cheapest (given .tape) p s c rest o)
       placing none e = ejecting (eject p (s .routes) c failures) refl
       placing (some x) e = insert c rest x refl e
 
