@@ -41,6 +41,12 @@ unfolding foldl
 foldl-rule P Q f step all-nil base = base
 foldl-rule P Q f {s} step (all-cons {x = x} q a) base = foldl-rule P Q f step a (step s x q base)
 
+-- turns that agree make one loop
+pub loop-same : {S : Type 0} (n : ℕ) (f g : ℕ → S → S) (s : S) → ((i : ℕ) (t : S) → f i t ≡ g i t) → loop n f s ≡ loop n g s
+unfolding loop
+loop-same zero f g s e = refl
+loop-same (suc n) f g s e = e n (loop n f s) ∙ ap (g n) (loop-same n f g s e)
+
 -- a turn more: what holds of each number below m, and of m
 pub up-to : {P : Type 0} (m j : ℕ) → j < suc m → (j < m → P) → (j ≡ m → P) → P
 up-to {P} m j k f g = go (ltb j m) refl

@@ -5,3 +5,5 @@ pub mod DepartureLaws
 pub mod LatestLaws
 -- the test of one position
 pub mod FitLaws
+-- departures and latest arrivals in work cells
+pub mod PrepareLaws

@@ -18,10 +18,10 @@ use Rattle.quick_test.specs.Quick.{served-at, earliest-start, latest-sta
 unfoldable pub leave : Customers → DistanceMatrix → Float → ℕ → ℕ → Left
 leave cs m time prev c = served-at (time ⊕ travel-time m prev c) (customer-at cs c)
 
--- what a Bool and some cells say together: the cells, where it is true
-abbrev pub told : Bool → List Float → Option (List Float)
-told true cells = some cells
-told false cells = none
+-- what a Bool and a value say together: the value, where it is true
+abbrev pub told : {A : Type 0} → Bool → A → Option A
+told true a = some a
+told false a = none
 
 -- how late a stop with this window may be reached where its service has to start by start-by
 unfoldable pub latest-in : Float → Window → Float
