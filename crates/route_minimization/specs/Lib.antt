@@ -7,6 +7,8 @@ pub mod Clock
 pub mod Turns
 -- what an attempt and the search keep
 pub mod Minimized
+-- what the code asks of a state, and that a turn keeps it
+pub mod Pooled
 -- the cost falls
 pub mod Falls
 -- every definition, opened for theorems by computation

@@ -26,7 +26,7 @@ use Rattle.local_search.specs.Reduced.{Better, Bounded, triangle, Ended, reduce
 use Rattle.insertion.specs.Cheapest.{cheapest}
 use Rattle.ejection.specs.declared.Ejection.{Ejection}
 use Rattle.ejection.specs.Eject.{kept, eject, into, make-room, gone}
-use Rattle.route_minimization.specs.Minimize.{Allowance, State, at-limit, run-pool, empty-into, if-cheaper, attempt, minimize-routes}
+use Rattle.route_minimization.specs.Minimize.{Allowance, State, turn, at-limit, run-pool, empty-into, if-cheaper, attempt, minimize-routes}
 use Rattle.insertion.specs.Inserted.{insert-non-empty, Inserts, cheapest-found}
 use Rattle.ejection.specs.Ejected.{Ejects, ejects-count, eject-found}
 use Rattle.perturbation.specs.Moves.{Moves, perturb-rule, perturb-draws}
@@ -44,7 +44,7 @@ module _ (given : Allowance) (p : Problem) where
       (λ _. i .1)
       (λ n lo hi same. record { steps-in = omega arith; draws-in = omega arith })
       (λ c rest x _ _. (omega arith, record { steps-in = omega arith; draws-in = omega arith }))
-      (λ c rest failures e _ _. (
+      (λ c rest failures e _ _ _. (
         omega arith,
         record { steps-in = omega arith; draws-in = omega (arith, perturb-draws p (given .tape) (record { routes = make-room (s .routes) c e; draws = s .counts .draws })) },
       )))
@@ -104,28 +104,30 @@ module _ (p : Problem) (G : List ℕ → Type 0) (pass : (r : List ℕ) → feas
         kinds = m .kinds (h .kinds);
       }
 
-  pool-keeps : (given : Allowance) (left : ℕ) (s : State) → Placing G before (s .routes) (s .pool)
-      → Each (λ x. Placing G before x []) (run-pool given p left s .plan)
-  unfolding at-limit
-  pool-keeps given left s h =
-      pool-rule given p (λ left s. Placing G before (s .routes) (s .pool)) O
-      (λ s h. limit s (s .pool) h)
-      (λ left s h. turn-rule given p (Then (λ t. Placing G before (t .routes) (t .pool)) O) s (s .pool)
+  abbrev Placed : Tried → Type 0
+  Placed t = Each (λ x. Placing G before x []) (t .plan)
+
+  -- a turn that goes on keeps it, and one that empties the pool ends with it
+  pub turn-placing : (given : Allowance) (s : State) → Placing G before (s .routes) (s .pool)
+      → Then (λ t. Placing G before (t .routes) (t .pool)) Placed (turn given p s (s .pool))
+  turn-placing given s h =
+      turn-rule given p (Then (λ t. Placing G before (t .routes) (t .pool)) Placed) s (s .pool)
       (λ e. subst (Placing G before (s .routes)) e h)
       (λ n _ _ _. tt)
       (λ c rest x e f.
       let found = each-found (Inserts p (s .routes) c) (cheapest p (s .routes) c) f (cheapest-found p (s .routes) c) in
       insert-keeps (s .routes) c rest (x .route) (x .pos) (found .there) (found .feasible-with) (subst (Placing G before (s .routes)) e h))
-      (λ c rest failures x e f.
+      (λ c rest failures x e _ f.
       perturb-rule p (given .tape) G pass (λ r. Placing G before r (reverse (gone (s .routes) x) ++ rest)) (move-keeps (reverse (gone (s .routes) x) ++ rest))
       (record { routes = make-room (s .routes) c x; draws = s .counts .draws })
-      (eject-keeps (s .routes) c rest x (each-found (Ejects p (s .routes) c) (eject p (s .routes) c failures) f (eject-found p (s .routes) c failures)) (subst (Placing G before (s .routes)) e h))))
-      left s h
-    where
-      O : Tried → Type 0
-      O t = Each (λ x. Placing G before x []) (t .plan)
+      (eject-keeps (s .routes) c rest x (each-found (Ejects p (s .routes) c) (eject p (s .routes) c failures) f (eject-found p (s .routes) c failures)) (subst (Placing G before (s .routes)) e h)))
 
-      limit : (s : State) (pool : List ℕ) → Placing G before (s .routes) pool → Each (λ x. Placing G before x []) (at-limit s pool .plan)
+  pool-keeps : (given : Allowance) (left : ℕ) (s : State) → Placing G before (s .routes) (s .pool) → Placed (run-pool given p left s)
+  unfolding at-limit
+  pool-keeps given left s h =
+      pool-rule given p (λ left s. Placing G before (s .routes) (s .pool)) Placed (λ s h. limit s (s .pool) h) (λ left s h. turn-placing given s h) left s h
+    where
+      limit : (s : State) (pool : List ℕ) → Placing G before (s .routes) pool → Placed (at-limit s pool)
       limit s [] h = h
       limit s (c ∷ rest) h = tt
 

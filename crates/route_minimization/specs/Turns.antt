@@ -37,7 +37,8 @@ module _ (given : Allowance) (p : Problem) where
         failures = s .failures;
         counts = counted (s .counts) (s .counts .draws);
       })))
-      → ((c : ℕ) (rest failures : List ℕ) (e : Ejection) → pool ≡ c ∷ rest → eject p (s .routes) c failures ≡ some e
+      → ((c : ℕ) (rest failures : List ℕ) (e : Ejection) → pool ≡ c ∷ rest → failures ≡ set (s .failures) c (getD (s .failures) c 0 + 1)
+      → eject p (s .routes) c failures ≡ some e
       → let d = perturb p (given .tape) (record { routes = make-room (s .routes) c e; draws = s .counts .draws }) in
       Q (more (record {
         routes = d .routes;
@@ -58,7 +59,7 @@ module _ (given : Allowance) (p : Problem) where
 
       ejecting : (o : Option Ejection) → eject p (s .routes) c failures ≡ o → Q (after-eject (given .tape) p s c rest failures o)
       ejecting none e = fail (counted (s .counts) (s .counts .draws)) (omega arith) (le-refl (s .counts .steps + 1)) refl
-      ejecting (some x) e = out c rest failures x refl e
+      ejecting (some x) e = out c rest failures x refl refl e
 
       placing : (o : Option Insertion) → cheapest p (s .routes) c ≡ o → Q (after-cheapest (given .tape) p s c rest o)
       placing none e = ejecting (eject p (s .routes) c failures) refl
