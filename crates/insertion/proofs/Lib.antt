@@ -5,3 +5,5 @@ pub mod PassLaws
 pub mod PositionLaws
 -- one route
 pub mod RouteLaws
+-- the routes of a plan
+pub mod PlanLaws

@@ -302,3 +302,106 @@ fn try_route(
     }
     best
 }
+
+// Route k, which stands from `at` to `end` among the stops.
+fn try_part(
+    cells: &mut [f64],
+    stops: &[u16],
+    at: usize,
+    end: usize,
+    c: usize,
+    k: usize,
+    best: Best,
+    needed: bool,
+    vehicle: Vehicle,
+    demand: &[i32],
+    n: usize,
+    distances: &[f64],
+    times: &[f64],
+    service: &[f64],
+    ready: &[f64],
+    due: &[f64],
+    penalty: &[f64],
+    flags: &[u8],
+) -> Best
+    requires { ⌜ Admitted (problem n (now demand) (now service) (now ready) (now due) (now penalty) (now flags) (now distances) (now times) vehicle) ⌝ }
+    requires { ⌜ (c < n) × (at ≤ end) × (end ≤ length (now stops)) × Stops n (take (end - at) (drop at (now stops))) × (512 ≤ length (now cells))
+        × (needed ≡ route-checks-needed (now flags) (limits-of vehicle)) ⌝ }
+    ensures { λ r. ⌜ chosen r ≡ try-route (problem n (now (demand .entry)) (now (service .entry)) (now (ready .entry)) (now (due .entry)) (now (penalty .entry)) (now (flags .entry))
+        (now (distances .entry)) (now (times .entry)) vehicle) c k (take (end - at) (drop at (now (stops .entry)))) (chosen best) ⌝ }
+{
+    try_route(
+        cells,
+        &stops[at..end],
+        c,
+        k,
+        best,
+        needed,
+        vehicle,
+        demand,
+        n,
+        distances,
+        times,
+        service,
+        ready,
+        due,
+        penalty,
+        flags,
+    )
+}
+
+// The cheapest feasible insertion of c into a plan, over its routes and then their positions: the first found among equals. The work
+// cells are 512 and may hold anything.
+pub fn cheapest(
+    cells: &mut [f64],
+    lengths: &[u16],
+    stops: &[u16],
+    c: usize,
+    needed: bool,
+    vehicle: Vehicle,
+    demand: &[i32],
+    n: usize,
+    distances: &[f64],
+    times: &[f64],
+    service: &[f64],
+    ready: &[f64],
+    due: &[f64],
+    penalty: &[f64],
+    flags: &[u8],
+) -> Best
+    requires { ⌜ Admitted (problem n (now demand) (now service) (now ready) (now due) (now penalty) (now flags) (now distances) (now times) vehicle) ⌝ }
+    requires { ⌜ Lent (now lengths) (now stops) × All (Stops n) (split (now lengths) (now stops)) × (c < n) × (512 ≤ length (now cells))
+        × (needed ≡ route-checks-needed (now flags) (limits-of vehicle)) ⌝ }
+    ensures { λ r. ⌜ chosen r ≡ cheapest (problem n (now (demand .entry)) (now (service .entry)) (now (ready .entry)) (now (due .entry)) (now (penalty .entry)) (now (flags .entry))
+        (now (distances .entry)) (now (times .entry)) vehicle) (split (now (lengths .entry)) (now (stops .entry))) c ⌝ }
+{
+    let mut best = Best::Nothing;
+    let mut at = 0;
+    let mut k = 0;
+    while k < lengths.len() {
+        let end = at + lengths[k] as usize;
+        best = try_part(
+            cells,
+            stops,
+            at,
+            end,
+            c,
+            k,
+            best,
+            needed,
+            vehicle,
+            demand,
+            n,
+            distances,
+            times,
+            service,
+            ready,
+            due,
+            penalty,
+            flags,
+        );
+        at = end;
+        k += 1;
+    }
+    best
+}
