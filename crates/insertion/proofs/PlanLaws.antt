@@ -1,7 +1,7 @@
 -- Laws of specs/Cheapest on the routes of a plan, each from the facts that the code has where it needs it. Assumes nothing.
 use Prim.Native.Nat.{ℕ, _+_, _-_, _≤_, _<_}
 use native.Mathlib.Nat.{le-antisymm}
-use mathlib.Core.Path.{_≡_, refl, sym, ap, _∙_}
+use mathlib.Core.Path.{_≡_, refl, sym, _∙_}
 use mathlib.Core.Bool.{Bool}
 use mathlib.Core.List.{List}
 use mathlib.Core.Option.{Option, none}

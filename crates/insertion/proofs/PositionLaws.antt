@@ -1,7 +1,7 @@
 -- Laws of specs/Pass on the positions of one route, each from the facts that the code has where it needs it. Assumes nothing.
 use Prim.Native.Nat.{ℕ, suc, _+_, _≤_, _<_}
 use native.Mathlib.Omega.{arith}
-use mathlib.Core.Path.{_≡_, refl, sym, ap, _∙_}
+use mathlib.Core.Path.{_≡_}
 use mathlib.Core.Bool.{Bool, true, false, not}
 use mathlib.Core.List.{List}
 use mathlib.Core.Option.{Option, some}
@@ -94,4 +94,4 @@ module _ (p : Problem) (c k : ℕ) (r : List ℕ) (cells : List Float) (needed :
     trying-end h =
         loop-end (pass-position p c k r (held (length r) cells)) (chosen first) pos (suc (length r)) (chosen found) (g .same) (omega (arith, g .within))
 
-pub ruleset trying-laws = (needs, trying-start, trying-next, trying-more, trying-end)
+pub ruleset trying-laws = (needs, trying-start, trying-next, trying-end)

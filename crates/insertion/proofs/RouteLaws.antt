@@ -1,6 +1,6 @@
 -- Laws of specs/Cheapest on one route, each from the facts that the code has where it needs it. Assumes nothing.
 use Prim.Native.Nat.{ℕ, suc}
-use mathlib.Core.Path.{_≡_, refl, sym, ap, _∙_}
+use mathlib.Core.Path.{_≡_, refl, sym, _∙_}
 use mathlib.Core.Bool.{Bool, true, false}
 use mathlib.Core.List.{List, []}
 use mathlib.Core.Option.{Option}
@@ -16,7 +16,7 @@ use Rattle.local_search.proofs.ReadLaws.{room-any}
 use Rattle.quick_test.specs.Quick.{Times, times as times-along}
 use Rattle.quick_test.specs.Prepared.{held, Prepared, prepared-missed, prepared-read, prepared-any}
 use Rattle.insertion.specs.Cheapest.{try-position, try-positions, try-route}
-use Rattle.insertion.specs.Pass.{may-pass, pass-position, pass-position-room, try-position-untimed}
+use Rattle.insertion.specs.Pass.{may-pass-any, pass-position, pass-position-room, try-position-untimed}
 
 -- the loop over positions may read the cells
 positions-read : (p : Problem) (c k : ℕ) (r : List ℕ) (best : Option Insertion) (w : Bool) (cells : List Float) → Prepared p r w cells → w ≡ true
@@ -56,8 +56,10 @@ module _ (n : ℕ) (demand : List ℤ) (service ready due penalty : List Float) 
 
     -- no demand is read by a turn
     turn : (pos : ℕ) (b : Option Insertion) → pass-position unladen c k r (held (length r) cells) pos b ≡ try-position p c k r (held (length r) cells) pos b
-    unfolding pass-position may-pass
-    turn pos b = pass-position-room p c k r (held (length r) cells) pos b (sym room ∙ h)
+    unfolding pass-position
+    turn pos b =
+        rw (may-pass-any n demand service ready due penalty flags distances times vehicle r (held (length r) cells) pos c)
+        (pass-position-room p c k r (held (length r) cells) pos b (sym room ∙ h))
 
     pub route-tried : (x : Option Insertion) → w ≡ true → x ≡ loop (suc (length r)) (pass-position unladen c k r (held (length r) cells)) best
         → x ≡ try-route p c k r best

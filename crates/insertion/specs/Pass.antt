@@ -1,6 +1,6 @@
 -- The tests of a position, the load aside: the load test is made once for a route, before its positions. Assumes nothing.
 use Prim.Native.Nat.{ℕ}
-use mathlib.Core.Path.{_≡_, refl, sym, ap, _∙_}
+use mathlib.Core.Path.{_≡_, refl, ap}
 use mathlib.Core.Bool.{Bool, true, false, cond, not, _&&_, _||_}
 use mathlib.Core.List.{List, []}
 use mathlib.Core.Option.{Option, some}
@@ -11,7 +11,7 @@ use Rattle.models.specs.declared.vehicle.Vehicle.{Vehicle}
 use Rattle.models.specs.Problem.{Problem, problem, depot}
 use Rattle.local_search.specs.declared.route.Insertion.{Insertion}
 use Rattle.local_search.specs.Route.{insertion-cost}
-use Rattle.local_search.specs.Feasible.{constrained, has-room, checked, feasible}
+use Rattle.local_search.specs.Feasible.{constrained, has-room, checked}
 use Rattle.local_search.proofs.FeasibleLaws.{trial-within}
 use Rattle.quick_test.specs.Quick.{may-fit, Times}
 use Rattle.insertion.specs.Cheapest.{may-go-in, cheaper, try-position}

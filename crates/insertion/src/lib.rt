@@ -90,7 +90,7 @@ pub fn may_pass(
         (now (distances .entry)) (now (times .entry)) vehicle) (now (route .entry)) (held (length (now (route .entry))) (now (cells .entry))) pos c ⌝ }
 {
     if needed {
-        if quick(
+        let fits = quick(
             route,
             cells,
             pos,
@@ -104,7 +104,8 @@ pub fn may_pass(
             due,
             penalty,
             flags,
-        ) {
+        );
+        if fits {
             return trial_ok(
                 route,
                 pos,
@@ -265,8 +266,9 @@ fn try_route(
     ensures { λ r. ⌜ chosen r ≡ try-route (problem n (now (demand .entry)) (now (service .entry)) (now (ready .entry)) (now (due .entry)) (now (penalty .entry)) (now (flags .entry))
         (now (distances .entry)) (now (times .entry)) vehicle) c k (now (route .entry)) (chosen best) ⌝ }
 {
-    if has_room(route, c, demand, vehicle) {
-        if prepare(
+    let room = has_room(route, c, demand, vehicle);
+    if room {
+        let in_time = prepare(
             cells,
             route,
             needed,
@@ -279,7 +281,8 @@ fn try_route(
             due,
             penalty,
             flags,
-        ) {
+        );
+        if in_time {
             return try_positions(
                 route,
                 cells,
@@ -350,8 +353,8 @@ fn try_part(
     )
 }
 
-// The cheapest feasible insertion of c into a plan, over its routes and then their positions: the first found among equals. The work
-// cells are 512 and may hold anything.
+// The cheapest feasible insertion of c into a plan, over its routes and then their positions: the first found among equals. There are
+// 512 work cells or more, with anything in them.
 pub fn cheapest(
     cells: &mut [f64],
     lengths: &[u16],

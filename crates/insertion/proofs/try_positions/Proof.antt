@@ -3,8 +3,9 @@ use Prim.Native.Nat.{suc, _-_}
 use mathlib.Core.List.{[]}
 use lib.ListN.{length}
 use borrow.Author.Needs.{needs}
+use native.Mathlib.Omega.{arith}
 use Rattle.models.specs.Problem.{problem}
-use Rattle.insertion.proofs.PositionLaws.{Trying, trying-laws}
+use Rattle.insertion.proofs.PositionLaws.{Trying, trying-more, trying-laws}
 use Rattle.insertion.proofs.try_positions.Statement.{statement}
 use Rattle.insertion.proofs.try_positions.Tie as tie
 
@@ -28,7 +29,7 @@ loop-less : tie.Need-loop-less Inv-loop μ-loop
 loop-less c = search needs
 
 loop-again : tie.Need-loop-again Inv-loop μ-loop
-loop-again c = search trying-laws
+loop-again c = trying-more _ _ _ _ _ _ _ _ _ (c .before .before .loop .inv) _ (omega arith) (c .try-position .ensures)
 
 returns : tie.Need-returns Inv-loop μ-loop
 returns c = search trying-laws
