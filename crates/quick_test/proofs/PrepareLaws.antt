@@ -3,13 +3,12 @@ use Prim.Native.Nat.{ℕ, _≤_}
 use native.Mathlib.Omega.{arith}
 use mathlib.Core.Path.{_≡_, refl, sym, ap, _∙_}
 use mathlib.Core.Bool.{Bool, true, false, true≢false}
-use mathlib.Core.List.{List, [], _++_}
+use mathlib.Core.List.{List, _++_}
 use mathlib.Core.Option.{Option, none, some}
 use lib.ListN.{length, take, drop, length-take, length-drop}
 use lib.Seq.{take-append-le, drop-at, take-take, length-take-le}
 use lib.Ieee.{Float}
-use Rattle.models.specs.Customer.{Customers}
-use Rattle.models.specs.Problem.{DistanceMatrix, Problem, Stops, depot}
+use Rattle.models.specs.Problem.{Problem, Stops, depot}
 use Rattle.local_search.specs.Feasible.{constrained}
 use Rattle.quick_test.specs.Quick.{departures, latest-arrivals, with-latest, times}
 use Rattle.quick_test.specs.Parts.{told}
