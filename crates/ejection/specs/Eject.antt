@@ -70,20 +70,26 @@ unfoldable pub try-kept : Problem → ℕ → ℕ → ℕ → ℕ → ℕ → Li
 try-kept p c n k i j left none best = best
 try-kept p c n k i j left (some t) best = loop (suc (length left)) (try-in-kept p c n k i j left t) best
 
--- `for out in pairs`: failures alone, then the load test, then the positions
+-- "the load test", and then the positions
+unfoldable pub try-left : Problem → ℕ → ℕ → ℕ → ℕ → ℕ → List ℕ → Option Ejection → Option Ejection
+try-left p c n k i j left best = cond (has-room p left c) (try-kept p c n k i j left (times p left) best) best
+
+-- `for out in pairs`: failures alone, and then what is kept
 unfoldable pub try-out : Problem → ℕ → List ℕ → ℕ → List ℕ → ℕ → ℕ → Option Ejection → Option Ejection
 try-out p c failures k r i j best =
     let n = failure-sum failures r i j in
-    let left = kept i j r in
-    cond (fails-more n best) best (cond (has-room p left c) (try-kept p c n k i j left (times p left) best) best)
+    cond (fails-more n best) best (try-left p c n k i j (kept i j r) best)
 
 -- `size == 1`: each i
 unfoldable pub try-one : Problem → ℕ → List ℕ → ℕ → List ℕ → Option Ejection → Option Ejection
 try-one p c failures k r best = loop (length r) (λ i. try-out p c failures k r i i) best
 
 -- `size == 2`: each i, then each j after it
+unfoldable pub try-two-from : Problem → ℕ → List ℕ → ℕ → List ℕ → ℕ → Option Ejection → Option Ejection
+try-two-from p c failures k r i best = loop (length r - suc i) (λ d. try-out p c failures k r i (suc i + d)) best
+
 unfoldable pub try-two : Problem → ℕ → List ℕ → ℕ → List ℕ → Option Ejection → Option Ejection
-try-two p c failures k r best = loop (length r) (λ i. loop (length r - suc i) (λ d. try-out p c failures k r i (suc i + d))) best
+try-two p c failures k r best = loop (length r) (try-two-from p c failures k r) best
 
 -- over all routes
 unfoldable pub eject-one : Problem → Plan → ℕ → List ℕ → Option Ejection

@@ -23,7 +23,7 @@ use Rattle.quick_test.specs.Quick.{Times, times}
 use Rattle.insertion.specs.Cheapest.{may-go-in}
 use Rattle.insertion.specs.Inserted.{may-go-in-feasible}
 use Rattle.ejection.specs.declared.Ejection.{Ejection}
-use Rattle.ejection.specs.Eject.{kept, ejected, failure-sum, fails-more, outranks, try-in-kept, try-kept, try-out, try-one, try-two, eject-one, eject-two, eject, into, gone}
+use Rattle.ejection.specs.Eject.{kept, ejected, failure-sum, fails-more, outranks, try-in-kept, try-kept, try-left, try-out, try-one, try-two-from, try-two, eject-one, eject-two, eject, into, gone}
 
 -- the stops that stay and those that leave are those of the route
 pub kept-count : (x i j : ℕ) (r : List ℕ) → i ≤ j → j < length r → count x (kept i j r) + count x (ejected i j r) ≡ count x r
@@ -114,7 +114,7 @@ module _ (p : Problem) (routes : Plan) (c : ℕ) (failures : List ℕ) where
         (λ _. b)) b
 
     out-found : (i j : ℕ) → i ≤ j → j < length (route k routes) → (best : Option Ejection) → Out best → Out (try-out p c failures k (route k routes) i j best)
-    unfolding try-out
+    unfolding try-out try-left
     out-found i j h g best b =
         let r = route k routes in
         let n = failure-sum failures r i j in
@@ -129,11 +129,11 @@ module _ (p : Problem) (routes : Plan) (c : ℕ) (failures : List ℕ) where
       (λ i best i-in b. out-found k k-in i i (le-refl i) i-in best b) b) tt
 
   two-found : Out (eject-two p routes c failures)
-  unfolding eject-two try-two
+  unfolding eject-two try-two try-two-from
   two-found =
       loop-rule (λ _. Out) (length routes) (λ k. try-two p c failures k (route k routes)) (λ k best k-in b.
       let r = route k routes in
-      loop-rule (λ _. Out) (length r) (λ i. loop (length r - suc i) (λ d. try-out p c failures k r i (suc i + d))) (λ i best i-in b.
+      loop-rule (λ _. Out) (length r) (try-two-from p c failures k r) (λ i best i-in b.
       loop-rule (λ _. Out) (length r - suc i) (λ d. try-out p c failures k r i (suc i + d))
       (λ d best d-in b. out-found k k-in i (suc i + d) (omega arith) (omega arith) best b) b) b) tt
 

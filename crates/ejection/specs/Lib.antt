@@ -1,6 +1,8 @@
 -- The ejection. A file uses only files above it in this list.
 -- one stop ejected, else two
 pub mod Eject
+-- its parts, a definition for each smaller function
+pub mod Pass
 -- what the functions ask for
 pub mod Asked
 -- what it finds lies in the plan and is feasible, and no stop is lost

@@ -7,6 +7,7 @@ ghost use Rattle.ejection.specs.Eject.{kept, failures-at, failure-sum, c
 ghost use Rattle.ejection.specs.Asked.{Counted};
 
 pub mod make;
+pub mod search;
 
 // Who leaves a route and where the popped stop goes: the sum of their failures, what the insertion costs, the route, the two places in it
 // (the same one twice where one stop leaves), and the position in the kept part.
@@ -26,7 +27,7 @@ pub enum Best {
 }
 
 // Whether the sum of failures alone rules an ejection out.
-fn fails_more(failed: u32, best: Best) -> bool
+pub fn fails_more(failed: u32, best: Best) -> bool
     ensures { λ r. ⌜ r ≡ fails-more failed (chosen best) ⌝ }
 {
     match best {
@@ -36,7 +37,7 @@ fn fails_more(failed: u32, best: Best) -> bool
 }
 
 // Whether an ejection ranks before the best so far: by failures, then by cost, the first of equals.
-fn outranks(failed: u32, cost: f64, best: Best) -> bool
+pub fn outranks(failed: u32, cost: f64, best: Best) -> bool
     ensures { λ r. ⌜ r ≡ outranks failed cost (chosen best) ⌝ }
 {
     match best {
@@ -70,7 +71,7 @@ fn failures_at(failures: &[u32], route: &[u16], i: usize) -> u32
 }
 
 // The sum of the failures of the stops at i and j, once where they are the same.
-fn failure_sum(failures: &[u32], route: &[u16], i: usize, j: usize) -> u32
+pub fn failure_sum(failures: &[u32], route: &[u16], i: usize, j: usize) -> u32
     requires { ⌜ Counted (length (now failures)) (now failures) × Stops (length (now failures)) (now route) × (i ≤ j) × (j < length (now route)) ⌝ }
     ensures { λ r. ⌜ r ≡ failure-sum (now (failures .entry)) (now (route .entry)) i j ⌝ }
 {
@@ -83,7 +84,7 @@ fn failure_sum(failures: &[u32], route: &[u16], i: usize, j: usize) -> u32
 }
 
 // The route without the stops at i and j goes to the first work cells. Returns how many they are.
-fn keep(work: &mut [u16], route: &[u16], i: usize, j: usize) -> usize
+pub fn keep(work: &mut [u16], route: &[u16], i: usize, j: usize) -> usize
     requires { ⌜ (i ≤ j) × (j < length (now route)) × (length (now route) ≤ length (now work)) ⌝ }
     ensures { λ r. ⌜ (take r (now (work .exit)) ≡ kept i j (now (route .entry))) × (r ≡ length (kept i j (now (route .entry)))) ⌝ }
 {

@@ -1,0 +1,43 @@
+-- The parts of the search that have a function of their own: a position without the load test, which is made once for what is kept; and one stop or
+-- two by a flag. Assumes nothing.
+use Prim.Native.Nat.{ℕ}
+use mathlib.Core.Path.{_≡_}
+use mathlib.Core.Bool.{Bool, true, false, cond}
+use mathlib.Core.List.{List}
+use mathlib.Core.Option.{Option, none, some}
+use lib.ListN.{length}
+use Rattle.laws.specs.Loops.{loop}
+use Rattle.models.specs.Problem.{Problem, depot}
+use Rattle.plan.specs.Plan.{Plan, route}
+use Rattle.local_search.specs.Route.{insertion-cost}
+use Rattle.local_search.specs.Feasible.{constrained, has-room}
+use Rattle.quick_test.specs.Quick.{Times}
+use Rattle.insertion.specs.Pass.{may-pass, may-pass-room, may-go-in-untimed}
+use Rattle.ejection.specs.declared.Ejection.{Ejection}
+use Rattle.ejection.specs.Eject.{outranks, try-in-kept, try-one, try-two}
+
+-- a turn of the loop over positions of a kept part that has room for c
+unfoldable pub pass-in-kept : Problem → ℕ → ℕ → ℕ → ℕ → ℕ → List ℕ → Times → ℕ → Option Ejection → Option Ejection
+pass-in-kept p c n k i j left t pos best =
+    let x = insertion-cost (p .roads) (depot p) left pos c in
+    cond (outranks n x best)
+    (cond (may-pass p left t pos c) (some (record { failed = n; cost = x; route = k; first = i; second = j; pos = pos })) best)
+    best
+
+module _ (p : Problem) (c n k i j : ℕ) (left : List ℕ) (t : Times) (pos : ℕ) (best : Option Ejection) where
+  pub pass-in-kept-room : has-room p left c ≡ true → pass-in-kept p c n k i j left t pos best ≡ try-in-kept p c n k i j left t pos best
+  unfolding pass-in-kept try-in-kept
+  pass-in-kept-room h = rw (may-pass-room p left t pos c h)
+
+  pub try-in-kept-untimed : (u : Times) → constrained p ≡ false → try-in-kept p c n k i j left t pos best ≡ try-in-kept p c n k i j left u pos best
+  unfolding try-in-kept
+  try-in-kept-untimed u e = rw (may-go-in-untimed p left t u pos c e)
+
+-- one stop or two leave route k
+abbrev pub try-some : Bool → Problem → ℕ → List ℕ → ℕ → List ℕ → Option Ejection → Option Ejection
+try-some true p c failures k r best = try-two p c failures k r best
+try-some false p c failures k r best = try-one p c failures k r best
+
+-- one stop or two leave a route of the plan: `eject-one` and `eject-two`
+unfoldable pub eject-some : Bool → Problem → Plan → ℕ → List ℕ → Option Ejection
+eject-some two p routes c failures = loop (length routes) (λ k. try-some two p c failures k (route k routes)) none
