@@ -1,0 +1,3 @@
+-- Laws that this crate's proofs cite.
+-- the draws
+pub mod DrawLaws
