@@ -1,3 +1,5 @@
 -- Laws that this crate's proofs cite.
 -- the draws
 pub mod DrawLaws
+-- the check of a route of the plan, and two stops exchanged
+pub mod ExchangeLaws

@@ -1,3 +1,4 @@
 // The random moves after an ejection (local_search/route_minimization.rs, `Pool::perturb`).
 // The definitions and their laws are in specs/.
 pub mod draws;
+pub mod exchange;
