@@ -3,3 +3,5 @@
 pub mod DrawLaws
 -- the check of a route of the plan, and two stops exchanged
 pub mod ExchangeLaws
+-- two tails exchanged
+pub mod TailLaws

@@ -1,8 +1,8 @@
--- `exchange::both_feasible` meets its contract.
+-- `check::both_feasible` meets its contract.
 use Rattle.laws.specs.Picks.{picks}
 use borrow.Author.Needs.{needs}
-use Rattle.perturbation.proofs.exchange.both_feasible.Statement.{statement}
-use Rattle.perturbation.proofs.exchange.both_feasible.Tie as tie
+use Rattle.perturbation.proofs.check.both_feasible.Statement.{statement}
+use Rattle.perturbation.proofs.check.both_feasible.Tie as tie
 
 feasible-at-requires : tie.Need-feasible-at-requires
 feasible-at-requires c κs = search needs

@@ -1,8 +1,8 @@
--- `exchange::feasible_at` meets its contract.
+-- `check::feasible_at` meets its contract.
 use borrow.Author.Needs.{needs}
 use Rattle.perturbation.proofs.ExchangeLaws.{route-end, route-stops, route-laws}
-use Rattle.perturbation.proofs.exchange.feasible_at.Statement.{statement}
-use Rattle.perturbation.proofs.exchange.feasible_at.Tie as tie
+use Rattle.perturbation.proofs.check.feasible_at.Statement.{statement}
+use Rattle.perturbation.proofs.check.feasible_at.Tie as tie
 
 offset-requires : tie.Need-offset-requires
 offset-requires c κs = search route-laws
