@@ -5,3 +5,5 @@ pub mod DrawLaws
 pub mod ExchangeLaws
 -- two tails exchanged
 pub mod TailLaws
+-- a move as it is drawn
+pub mod MoveLaws

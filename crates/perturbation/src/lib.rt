@@ -3,4 +3,5 @@
 pub mod check;
 pub mod draws;
 pub mod exchange;
+pub mod moves;
 pub mod tails;
