@@ -3,17 +3,16 @@
 use Prim.Native.Nat.{ℕ, _+_, _-_, _≤_, _<_}
 use native.Mathlib.Nat.{le-of-lt}
 use native.Mathlib.Omega.{arith}
-use mathlib.Core.Path.{_≡_, refl, sym, ap, _∙_}
-use mathlib.Core.Bool.{Bool, true, false, cond, _&&_}
+use mathlib.Core.Path.{_≡_, ap, _∙_}
+use mathlib.Core.Bool.{Bool, true, false}
 use mathlib.Core.List.{List}
 use lib.ListN.{length, getD, take, drop}
 use mir.Syntax.{w64}
 use mir.Val.{Fits}
 use borrow.Author.Needs.{needs}
 use Rattle.models.specs.Problem.{Problem, Stops}
-use Rattle.plan.specs.Plan.{Plan, Lent, Has-stop, split, route, total, offset, exchange-stops}
-use Rattle.plan.specs.Slices.{length-split, stop-route}
-use Rattle.plan.specs.Exchanges.{length-exchange-stops, occurs-exchange-stops, number-exchange-stops, first-stop-still, second-stop-still, exchange-stops-twice}
+use Rattle.plan.specs.Plan.{Lent, Has-stop, split, route, offset, exchange-stops}
+use Rattle.plan.specs.Exchanges.{occurs-exchange-stops, number-exchange-stops, first-stop-still, second-stop-still, exchange-stops-twice}
 use Rattle.local_search.specs.Feasible.{feasible}
 use Rattle.local_search.specs.Planned.{Planned, planned-stops, planned-as}
 use Rattle.local_search.proofs.VisitLaws.{Visiting, part-end, part-end-fits, part-length-fits, part-is, part-stops}

@@ -7,3 +7,5 @@ pub mod ExchangeLaws
 pub mod TailLaws
 -- a move as it is drawn
 pub mod MoveLaws
+-- the loop over the moves
+pub mod PerturbLaws

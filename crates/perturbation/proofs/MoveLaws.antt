@@ -1,22 +1,21 @@
 -- A move as it is drawn: laws of the definitions of specs/Perturb and specs/Parts, each from the facts that the code has where it needs it.
 -- Assumes nothing.
-use Prim.Native.Nat.{ℕ, suc, _+_, _-_, _≤_, _<_, _^_}
+use Prim.Native.Nat.{ℕ, _+_, _-_, _≤_, _<_}
 use native.Mathlib.Numerals.{add-one}
 use native.Mathlib.Omega.{arith}
-use mathlib.Core.Path.{_≡_, refl, sym, ap, _∙_}
-use mathlib.Core.Bool.{Bool, true, false, cond, _&&_}
+use mathlib.Core.Path.{_≡_, refl, sym, _∙_}
+use mathlib.Core.Bool.{Bool, true, false}
 use mathlib.Core.List.{List, [], _∷_}
 use lib.ListN.{length, getD}
 use mir.Syntax.{w64}
 use mir.Val.{Fits}
-use borrow.Author.Needs.{needs}
 use Rattle.laws.specs.Searches.{and-first, and-second}
 use Rattle.models.specs.Problem.{Problem}
 use Rattle.plan.specs.Plan.{Plan, Holds, Lent, Has-stop, Has-position, split, route, total, non-empty}
 use Rattle.plan.specs.Slices.{length-split, length-route, route-within}
 use Rattle.plan.proofs.PlanLaws.{length-fits}
-use Rattle.perturbation.specs.Perturb.{draw, draw-bool, both-non-empty, try-exchange, try-tails, try-move, Drawn, move-between, other-than, move}
-use Rattle.perturbation.specs.Parts.{drawn-exchange, drawn-tails, Movable, Pair}
+use Rattle.perturbation.specs.Perturb.{draw, draw-bool, both-non-empty, try-exchange, try-tails, try-move, move-between, other-than, move}
+use Rattle.perturbation.specs.Parts.{drawn-exchange, drawn-tails, Pair}
 use Rattle.perturbation.specs.Moves.{Between, non-empty-length, draw-in, other-in, other-apart}
 
 -- ---- two routes with stops

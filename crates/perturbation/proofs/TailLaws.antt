@@ -14,7 +14,7 @@ use Rattle.laws.specs.All.{all-get}
 use Rattle.laws.specs.Lists.{drop-take}
 use Rattle.models.specs.Problem.{Problem, Stops}
 use Rattle.plan.specs.Plan.{Plan, Holds, Lent, Has-position, split, route, total, offset, non-empty, exchange-tails}
-use Rattle.plan.specs.Slices.{length-split, length-route, route-split, route-within, total-set, position-route, position-within, holds-self}
+use Rattle.plan.specs.Slices.{length-route, route-split, route-within, total-set, position-route, position-within}
 use Rattle.plan.specs.Exchanges.{length-exchange-tails, occurs-exchange-tails, number-exchange-tails, first-exchange-tails, second-exchange-tails}
 use Rattle.plan.proofs.PlanLaws.{position-upto, position-fits, position-length-fits}
 use Rattle.local_search.specs.Feasible.{feasible}
