@@ -55,5 +55,5 @@ pub fn try_exchange(
     ) {
         return;
     }
-    exchange_stops(stops, lengths, a, i, b, j);
+    exchange_stops(stops, lengths, a, i, b, j); // back
 }

@@ -1,5 +1,6 @@
 -- `perturb` meets its contract.
 use Prim.Native.Nat.{_-_}
+use native.Mathlib.Omega.{arith}
 use Rattle.models.specs.Problem.{problem}
 use Rattle.perturbation.proofs.PerturbLaws.{Perturbing, perturb-few, perturbing-start, perturbing-movable, perturbing-more, perturbing-end}
 use borrow.Author.Needs.{needs}
@@ -26,7 +27,7 @@ one-move-requires : tie.Need-one-move-requires Inv-loop μ-loop
 one-move-requires c κs =
     let q = c .before .before .before .before .before .before .before .before .before .before .before .before .before .before .before .before .before .pre in
     let g = c .before .before .before .before .loop .inv in
-    (q .0, (perturbing-movable _ _ _ _ _ _ _ _ _ _ _ _ g (c .before .before .before .loop-test .taken), g .room, g .many, q .1 .5))
+    (q .0, (perturbing-movable _ _ _ _ _ _ _ _ _ _ _ _ g (omega (arith, c .before .before .before .loop-test .taken)), g .room, g .many, q .1 .5))
 
 add-i : tie.Need-add-i Inv-loop μ-loop
 add-i c = search needs
@@ -38,7 +39,7 @@ loop-again : tie.Need-loop-again Inv-loop μ-loop
 loop-again c =
     let g = c .before .before .before .before .before .before .before .before .before .before .before .loop .inv in
     let x = c .before .before .before .before .before .before .one-move in
-    perturbing-more _ _ _ _ _ _ _ _ _ _ _ _ g _ _ _ _ (c .before .before .before .before .before .before .before .before .before .before .loop-test .taken) (x .ensures) (x .kept .0) (x .kept .1 .0) (x .kept .1 .1 .0)
+    perturbing-more _ _ _ _ _ _ _ _ _ _ _ _ g _ _ _ _ (omega (arith, c .before .before .before .before .before .before .before .before .before .before .loop-test .taken)) (x .ensures) (x .kept .0) (x .kept .1 .0) (x .kept .1 .1 .0)
 
 same-length : tie.Need-same-length Inv-loop μ-loop
 same-length c = c .before .loop .inv .same-lengths
