@@ -27,7 +27,7 @@ pub record Moves (G : List ℕ → Type 0) (routes x : Plan) : Type 0 where
   pub places : (c : ℕ) → occurs c x ≡ occurs c routes
   pub kinds : All G routes → All G x
 
-non-empty-length : (r : List ℕ) → non-empty r ≡ true → 0 < length r
+pub non-empty-length : (r : List ℕ) → non-empty r ≡ true → 0 < length r
 unfolding non-empty
 non-empty-length [] h = absurd (false≢true h)
 non-empty-length (c ∷ r) h = omega arith
@@ -38,15 +38,15 @@ set-non-empty [] i c h = h
 set-non-empty (x ∷ r) zero c h = refl
 set-non-empty (x ∷ r) (suc i) c h = refl
 
-draw-in : (tape : List ℕ) (d m : ℕ) → 0 < m → draw tape d m < m
+pub draw-in : (tape : List ℕ) (d m : ℕ) → 0 < m → draw tape d m < m
 unfolding draw
 draw-in tape d m h = mod-lt (word tape d) h
 
-other-in : (a b n : ℕ) → b < n - 1 → other-than a b < n
+pub other-in : (a b n : ℕ) → b < n - 1 → other-than a b < n
 unfolding other-than
 other-in a b n h = cond-rule (λ (k : ℕ). k < n) (leb a b) {x = suc b} {y = b} (λ _. omega arith) (λ _. omega arith)
 
-other-apart : (a b : ℕ) → a ≡ other-than a b → ⊥
+pub other-apart : (a b : ℕ) → a ≡ other-than a b → ⊥
 unfolding other-than
 other-apart a b =
     cond-rule (λ (k : ℕ). a ≡ k → ⊥) (leb a b) {x = suc b} {y = b} (λ e q. omega (arith, leb-true a b e)) (λ e q. omega (arith, leb-false a b e))
@@ -131,10 +131,28 @@ module _ (p : Problem) (G : List ℕ → Type 0) (pass : (r : List ℕ) → feas
       (draw-in tape (d + 4) n (non-empty-length (route b routes) (and-second (non-empty (route a routes)) (non-empty (route b routes)) (w .full)))))
       (λ _. tails-keeps (draw tape (d + 3) (suc m)) (draw tape (d + 4) (suc n)))
 
--- What each move that stands keeps, the perturbation keeps.
+-- What each move that stands keeps, a turn keeps: it takes two different routes.
+pub move-rule : (p : Problem) (tape : List ℕ) (G : List ℕ → Type 0) → ((r : List ℕ) → feasible p r ≡ true → non-empty r ≡ true → G r)
+    → (Q : Plan → Type 0) (s : Drawn) → 2 ≤ length (s .routes) → ((x : Plan) → Moves G (s .routes) x → Q x) → Q (s .routes) → Q (move p tape s .routes)
+unfolding move move-between
+move-rule p tape G pass Q s h step q =
+    let n = length (s .routes) in
+    let a = draw tape (s .draws) n in
+    let v = draw tape (s .draws + 1) (n - 1) in
+    cond-rule (λ (t : Drawn). Q (t .routes)) (both-non-empty a (other-than a v) (s .routes))
+    (λ e. move-keeps p G pass Q (s .routes) step q a (other-than a v)
+    (record {
+      first-in = draw-in tape (s .draws) n (omega arith);
+      second-in = other-in a v n (draw-in tape (s .draws + 1) (n - 1) (omega arith));
+      apart = other-apart a v;
+      full = e;
+    }) tape (s .draws))
+    (λ _. q)
+
+-- The perturbation keeps it too.
 pub perturb-rule : (p : Problem) (tape : List ℕ) (G : List ℕ → Type 0) → ((r : List ℕ) → feasible p r ≡ true → non-empty r ≡ true → G r)
     → (Q : Plan → Type 0) → ((routes x : Plan) → Moves G routes x → Q routes → Q x) → (s : Drawn) → Q (s .routes) → Q (perturb p tape s .routes)
-unfolding perturb move move-between
+unfolding perturb
 perturb-rule p tape G pass Q step s q =
     cond-rule (λ (d : Drawn). Q (d .routes)) (ltb (length (s .routes)) 2) (λ _. q)
     (λ e. loop-rule (λ _ (d : Drawn). Two (d .routes)) 100 (λ i. move p tape) (λ i d _ h. moved d h) (omega (arith, ltb-false (length (s .routes)) 2 e), q) .1)
@@ -144,21 +162,11 @@ perturb-rule p tape G pass Q step s q =
     Two routes = (2 ≤ length routes) × Q routes
 
     moved : (d : Drawn) → Two (d .routes) → Two (move p tape d .routes)
-    moved d h =
-        let n = length (d .routes) in
-        let a = draw tape (d .draws) n in
-        let v = draw tape (d .draws + 1) (n - 1) in
-        let h0 = h .0 in
-        cond-rule (λ (t : Drawn). Two (t .routes)) (both-non-empty a (other-than a v) (d .routes))
-        (λ e. move-keeps p G pass Two (d .routes)
-        (λ x m. (rw (m .number) h0, step (d .routes) x m (h .1))) h a (other-than a v)
-        (record {
-          first-in = draw-in tape (d .draws) n (omega arith);
-          second-in = other-in a v n (draw-in tape (d .draws + 1) (n - 1) (omega arith));
-          apart = other-apart a v;
-          full = e;
-        }) tape (d .draws))
-        (λ _. h)
+    moved d h = let h0 = h .0 in move-rule p tape G pass Two d h0 (λ x m. (rw (m .number) h0, step (d .routes) x m (h .1))) h
+
+-- A turn leaves every place in the plan as often as it was.
+pub move-places : (p : Problem) (tape : List ℕ) (s : Drawn) → 2 ≤ length (s .routes) → (c : ℕ) → occurs c (move p tape s .routes) ≡ occurs c (s .routes)
+move-places p tape s h c = move-rule p tape (λ _. Unit {0}) (λ _ _ _. tt) (λ (x : Plan). occurs c x ≡ occurs c (s .routes)) s h (λ x m. m .places c) refl
 
 -- ---- draws
 
