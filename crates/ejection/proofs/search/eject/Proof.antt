@@ -1,3 +1,4 @@
+use Rattle.ejection.proofs.SearchLaws.{eject-first, eject-second}
 use native.Mathlib.Omega.{arith}
 use borrow.Author.Needs.{needs}
 use Rattle.ejection.proofs.search.eject.Statement.{statement}
@@ -24,14 +25,18 @@ same-length-2 c = search needs
 
 -- src/search.rt:663:9
 returns : tie.Need-returns
-returns c = search needs
+returns c = search (eject-first, c .before .before .before .before .before .before .eject-some .ensures, c .enum-told)
 
 enum-told-2 : tie.Need-enum-told-2
 enum-told-2 c = search needs
 
 -- src/search.rt:665:5
 eject-some-requires-2 : tie.Need-eject-some-requires-2
-eject-some-requires-2 c κs = search needs
+eject-some-requires-2 c κs = 
+    let p = c .before .before .before .before .before .before .before .before .before .before .before .before .before .before .before .before .before .before .before .before .before .before .before .pre in
+    let q = p .1 in
+    let t = c .before .before .before .before .before .before .before .before .eject-some in
+    (p .0, (q .0, q .1, q .2, q .3, omega (arith, q .4, t .kept .0), omega (arith, q .5, t .kept .1 .0), q .6))
 
 -- src/search.rt:617:1
 same-length-3 : tie.Need-same-length-3
@@ -43,7 +48,7 @@ same-length-4 c = search needs
 
 -- src/search.rt:617:1
 returns-2 : tie.Need-returns-2
-returns-2 c = search needs
+returns-2 c = search (eject-second, c .before .before .before .before .before .before .before .before .before .before .before .before .before .eject-some .ensures, c .before .before .before .before .eject-some2 .ensures, c .before .before .before .before .before .before .before .enum-told2)
 
 pub eject-spec : {M : Type 1} → statement M
 eject-spec =
