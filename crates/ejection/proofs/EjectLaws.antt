@@ -78,4 +78,3 @@ kept-copied w r i j m W1 W2 W3 h k em e1 e2 e3 =
 
 pub kept-number : (r : List ℕ) (i j m : ℕ) → i ≤ j → j < length r → m ≡ j - suc i → i + m + (length r - (j + 1)) ≡ length (kept i j r)
 kept-number r i j m h k e = omega (arith, kept-length i j r h k, e)
-

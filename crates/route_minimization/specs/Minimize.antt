@@ -47,11 +47,11 @@ abbrev pub counted : Counts → ℕ → Counts
 counted n draws = record { steps = n .steps + 1; draws = draws }
 
 -- "None: the attempt fails. The ejected go onto the pool in route order. Then `perturb`"
-unfoldable pub after-eject : List ℕ → Problem → State → ℕ → List ℕ → List ℕ → Option Ejection → Turn
-after-eject tape p s c rest failures none = stop (failed (counted (s .counts) (s .counts .draws)))
-after-eject tape p s c rest failures (some e) =
-    let d = perturb p tape (record { routes = make-room (s .routes) c e; draws = s .counts .draws }) in
-    more (record { routes = d .routes; pool = reverse (gone (s .routes) e) ++ rest; failures = failures; counts = counted (s .counts) (d .draws) })
+unfoldable pub after-eject : List ℕ → Problem → Plan → Counts → ℕ → List ℕ → List ℕ → Option Ejection → Turn
+after-eject tape p routes n c rest failures none = stop (failed (counted n (n .draws)))
+after-eject tape p routes n c rest failures (some e) =
+    let d = perturb p tape (record { routes = make-room routes c e; draws = n .draws }) in
+    more (record { routes = d .routes; pool = reverse (gone routes e) ++ rest; failures = failures; counts = counted n (d .draws) })
 
 -- the popped stop c inserted; "Otherwise failures of the popped stop rise by 1 and one stop, or .. two, leave a route"
 unfoldable pub after-cheapest : List ℕ → Problem → State → ℕ → List ℕ → Option Insertion → Turn
@@ -64,7 +64,7 @@ after-cheapest tape p s c rest (some best) =
     })
 after-cheapest tape p s c rest none =
     let failures = set (s .failures) c (getD (s .failures) c 0 + 1) in
-    after-eject tape p s c rest failures (eject p (s .routes) c failures)
+    after-eject tape p (s .routes) (s .counts) c rest failures (eject p (s .routes) c failures)
 
 -- A turn of the loop of `empty_into` below the step limit. "The clock answers no to the first K askings of a call (K: u64), yes from then on.":
 -- each asking that is answered by no counts a step, and no step counts without one, so the clock says stop exactly if K steps are counted.

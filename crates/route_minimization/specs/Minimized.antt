@@ -85,7 +85,7 @@ module _ (p : Problem) (G : List ℕ → Type 0) (pass : (r : List ℕ) → feas
         kinds = all-put-in k pos c routes (pass (insert-at pos c (route k routes)) f (insert-non-empty pos c (route k routes))) (h .kinds);
       }
 
-  eject-keeps : (routes : Plan) (c : ℕ) (rest : List ℕ) (e : Ejection) → Ejects p routes c e → Placing G before routes (c ∷ rest)
+  pub eject-keeps : (routes : Plan) (c : ℕ) (rest : List ℕ) (e : Ejection) → Ejects p routes c e → Placing G before routes (c ∷ rest)
       → Placing G before (make-room routes c e) (reverse (gone routes e) ++ rest)
   unfolding make-room count
   eject-keeps routes c rest e x h =

@@ -57,7 +57,7 @@ module _ (given : Allowance) (p : Problem) where
       failures : List ℕ
       failures = set (s .failures) c (getD (s .failures) c 0 + 1)
 
-      ejecting : (o : Option Ejection) → eject p (s .routes) c failures ≡ o → Q (after-eject (given .tape) p s c rest failures o)
+      ejecting : (o : Option Ejection) → eject p (s .routes) c failures ≡ o → Q (after-eject (given .tape) p (s .routes) (s .counts) c rest failures o)
       ejecting none e = fail (counted (s .counts) (s .counts .draws)) (omega arith) (le-refl (s .counts .steps + 1)) refl
       ejecting (some x) e = out c rest failures x refl refl e
 

@@ -1,32 +1,25 @@
+-- `failures_at` meets its contract.
 use Rattle.ejection.proofs.EjectLaws.{stop-below}
 use native.Mathlib.Omega.{arith}
 use borrow.Author.Needs.{needs}
 use Rattle.ejection.proofs.failures_at.Statement.{statement}
 use Rattle.ejection.proofs.failures_at.Tie as tie
-use Rattle.ejection.proofs.failures_at.Reads as reads
-use Rattle.ejection.proofs.failures_at.Lts as lts
 
--- src/lib.rt:67:14
 mul-result : tie.Need-mul-result
 mul-result c = search needs
 
--- src/lib.rt:67:14
 shared-slice-read-result : tie.Need-shared-slice-read-result
 shared-slice-read-result c = search needs
 
--- src/lib.rt:67:14
 cast-result : tie.Need-cast-result
 cast-result c = let p = c .before .pre in omega (arith, p .0 .cells, stop-below _ _ (p .0) (p .1) _ (p .2), c .shared-slice-known .given (c .before .args .i))
 
--- src/lib.rt:67:5
 mul-result-2 : tie.Need-mul-result-2
 mul-result-2 c = let p = c .before .pre in omega (arith, stop-below _ _ (p .0) (p .1) _ (p .2))
 
--- src/lib.rt:67:5
 shared-slice-read-result-2 : tie.Need-shared-slice-read-result-2
 shared-slice-read-result-2 c = let p = c .before .before .pre in omega (arith, stop-below _ _ (p .0) (p .1) _ (p .2))
 
--- src/lib.rt:63:1
 returns : tie.Need-returns
 returns c = search needs
 

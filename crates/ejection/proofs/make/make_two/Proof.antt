@@ -1,62 +1,47 @@
+-- `make::make_two` meets its contract.
 use Rattle.ejection.proofs.MakeLaws.{has-one, out-lent, second-stop, two-stop, two-position, made-two}
 use native.Mathlib.Omega.{arith}
 use borrow.Author.Needs.{needs}
 use Rattle.ejection.proofs.make.make_two.Statement.{statement}
 use Rattle.ejection.proofs.make.make_two.Tie as tie
-use Rattle.ejection.proofs.make.make_two.Reads as reads
-use Rattle.ejection.proofs.make.make_two.Lts as lts
-use Rattle.ejection.proofs.make.replace.Reads as replace-reads
-use Rattle.plan.proofs.take_out.Reads as take-out-reads
 
--- src/make.rt:54:9
 take-out-requires : tie.Need-take-out-requires
 take-out-requires c κs = search needs
 
--- src/make.rt:55:9
 replace-requires : tie.Need-replace-requires
-replace-requires c κs = 
+replace-requires c κs =
     let q = c .before .before .before .before .before .before .before .before .before .before .before .before .pre in
-    let t = c .before .before .before .before .before .before .take-out in
-    (
+    let t = c .before .before .before .before .before .before .take-out in (
       out-lent _ _ _ _ (q .0) (second-stop _ _ (q .1 .0)) _ _ (t .ensures .0) (t .kept .1 .0),
       (two-stop _ _ (q .1 .0) _ _ _ (t .ensures .0) (q .1 .1), two-position _ _ (q .1 .0) _ _ _ (t .ensures .0) (q .1 .1)),
     )
 
--- src/make.rt:56:5
 mul-pool : tie.Need-mul-pool
 mul-pool c = search needs
 
--- src/make.rt:56:5
 slice-write-pool : tie.Need-slice-write-pool
 slice-write-pool c = search needs
 
--- src/make.rt:57:10
 add-pool : tie.Need-add-pool
 add-pool c = search needs
 
--- src/make.rt:57:5
 mul-pool-2 : tie.Need-mul-pool-2
 mul-pool-2 c = search needs
 
--- src/make.rt:57:5
 slice-write-pool-2 : tie.Need-slice-write-pool-2
 slice-write-pool-2 c = search needs
 
--- src/make.rt:41:1
 same-length : tie.Need-same-length
 same-length c = search needs
 
--- src/make.rt:41:1
 same-length-2 : tie.Need-same-length-2
 same-length-2 c = search needs
 
--- src/make.rt:41:1
 same-length-3 : tie.Need-same-length-3
 same-length-3 c = search needs
 
--- src/make.rt:41:1
 returns : tie.Need-returns
-returns c = 
+returns c =
     let q = c .before .before .before .before .before .before .before .before .before .before .before .before .before .before .before .before .before .pre in
     let t = c .before .before .before .before .before .before .before .before .before .before .before .take-out in
     let x = c .before .before .before .before .replace in

@@ -1,3 +1,4 @@
+-- `search::eject_some` meets its contract.
 use Prim.Native.Nat.{_-_}
 use lib.ListN.{length}
 use Rattle.models.specs.Problem.{problem}
@@ -7,9 +8,6 @@ use borrow.Author.Needs.{needs}
 use native.Mathlib.Omega.{arith}
 use Rattle.ejection.proofs.search.eject_some.Statement.{statement}
 use Rattle.ejection.proofs.search.eject_some.Tie as tie
-use Rattle.ejection.proofs.search.eject_some.Reads as reads
-use Rattle.ejection.proofs.search.eject_some.Lts as lts
-use Rattle.ejection.proofs.search.try_part.Reads as try-part-reads
 
 abbrev Inv-loop : tie.InvT-loop
 Inv-loop work₀ cells₀ failures lengths stops two c needed vehicle demand n distances times service ready due penalty flags best₀ at₀ k₀ work cells best at k =
@@ -18,59 +16,47 @@ Inv-loop work₀ cells₀ failures lengths stops two c needed vehicle demand n d
 abbrev μ-loop : tie.MeasureT-loop
 μ-loop work₀ cells₀ failures lengths stops two c needed vehicle demand n distances times service ready due penalty flags best₀ at₀ k₀ work cells best at k = length lengths - k
 
--- src/search.rt:585:5
 loop-holds : tie.Need-loop-holds Inv-loop μ-loop
-loop-holds c = 
+loop-holds c =
     let p = c .before .before .before .before .before .before .before .before .before .before .before .before .pre in
     let q = p .1 in
     over-start _ _ _ _ _ _ _ _ _ (p .0) (q .0) (q .1) (q .2) (q .3) (q .4) (q .5) (q .6)
 
--- src/search.rt:586:24
 mul-end : tie.Need-mul-end Inv-loop μ-loop
 mul-end c = search needs
 
--- src/search.rt:586:24
 shared-slice-read-end : tie.Need-shared-slice-read-end Inv-loop μ-loop
 shared-slice-read-end c = search needs
 
--- src/search.rt:586:24
 cast-end : tie.Need-cast-end Inv-loop μ-loop
 cast-end c = part-length-fits _ _ _ _ _ (c .before .before .loop .inv .visit) (c .before .loop-test .taken)
 
--- src/search.rt:586:19
 add-end : tie.Need-add-end Inv-loop μ-loop
 add-end c = part-end-fits _ _ _ _ _ (c .before .before .loop .inv .visit) (c .before .loop-test .taken)
 
--- src/search.rt:587:9
 try-part-requires : tie.Need-try-part-requires Inv-loop μ-loop
-try-part-requires c κs = 
+try-part-requires c κs =
     let g = c .before .before .before .before .loop .inv in
     let h = c .before .before .before .loop-test .taken in
     ((omega arith, part-end _ _ _ _ _ (g .visit) h), (over-sought _ _ _ _ _ _ _ _ _ _ _ _ _ _ g h, (g .work-room, g .cells-room)))
 
--- src/search.rt:611:9
 add-k : tie.Need-add-k Inv-loop μ-loop
 add-k c = omega (arith, c .before .before .before .before .before .before .before .before .before .before .before .before .before .before .before .before .before .before .before .before .before .before .good, c .before .before .before .before .before .before .before .before .loop-test .taken)
 
--- src/search.rt:585:5
 loop-less : tie.Need-loop-less Inv-loop μ-loop
 loop-less c = search needs
 
--- src/search.rt:585:5
 loop-again : tie.Need-loop-again Inv-loop μ-loop
-loop-again c = 
+loop-again c =
     let t = c .before .before .before .before .try-part in
     over-more _ _ _ _ _ _ _ _ _ _ _ _ _ _ (c .before .before .before .before .before .before .before .before .before .loop .inv) _ _ _ (c .before .before .before .before .before .before .before .before .loop-test .taken) (t .kept .0) (t .kept .1 .0) (t .ensures)
 
--- src/search.rt:556:1
 same-length : tie.Need-same-length Inv-loop μ-loop
 same-length c = search needs
 
--- src/search.rt:556:1
 same-length-2 : tie.Need-same-length-2 Inv-loop μ-loop
 same-length-2 c = search needs
 
--- src/search.rt:556:1
 returns : tie.Need-returns Inv-loop μ-loop
 returns c = over-end _ _ _ _ _ _ _ _ _ _ _ _ _ _ (c .before .loop .inv) (omega arith)
 

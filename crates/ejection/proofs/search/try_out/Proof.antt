@@ -1,68 +1,52 @@
+-- `search::try_out` meets its contract.
 use Rattle.ejection.specs.Asked.{kept-stops}
 use Rattle.ejection.proofs.SearchLaws.{counted-own, stops-own, kept-inside, kept-part, out-more, out-tried}
 use native.Mathlib.Omega.{arith}
 use borrow.Author.Needs.{needs}
 use Rattle.ejection.proofs.search.try_out.Statement.{statement}
 use Rattle.ejection.proofs.search.try_out.Tie as tie
-use Rattle.ejection.proofs.search.try_out.Reads as reads
-use Rattle.ejection.proofs.search.try_out.Lts as lts
-use Rattle.ejection.proofs.fails_more.Reads as fails-more-reads
-use Rattle.ejection.proofs.failure_sum.Reads as failure-sum-reads
-use Rattle.ejection.proofs.keep.Reads as keep-reads
-use Rattle.ejection.proofs.search.try_left.Reads as try-left-reads
 
--- src/search.rt:232:9
 failure-sum-requires : tie.Need-failure-sum-requires
-failure-sum-requires c κs = 
+failure-sum-requires c κs =
     let p = c .before .before .before .before .before .before .before .before .before .before .before .pre in
     (counted-own _ _ (p .0 .counted), stops-own _ _ (p .0 .counted) _ (p .0 .stops), p .1 .2, p .1 .3)
 
--- src/search.rt:233:8
 fails-more-requires : tie.Need-fails-more-requires
 fails-more-requires c κs = search needs
 
--- src/search.rt:234:9
 returns : tie.Need-returns
 returns c = out-more _ _ _ _ _ _ _ _ _ _ (c .before .before .failure-sum .ensures) (c .before .fails-more .ensures) (c .if1 .taken)
 
--- src/search.rt:236:9
 keep-requires : tie.Need-keep-requires
 keep-requires c κs = search needs
 
--- src/search.rt:245:9
 sub-try-left : tie.Need-sub-try-left
 sub-try-left c = search needs
 
--- src/search.rt:245:9
 part-try-left-start : tie.Need-part-try-left-start
 part-try-left-start c = search needs
 
--- src/search.rt:245:9
 part-try-left-end : tie.Need-part-try-left-end
-part-try-left-end c = 
+part-try-left-end c =
     let A = c .before .before .before .before .before .before .before .before .before .before .before .before .before .before .before .before .before .before .before .before .args in
     let p = c .before .before .before .before .before .before .before .before .before .before .before .before .before .before .before .before .before .before .before .before .pre in
     let k = c .before .before .before .before .keep in
     omega (arith, kept-inside (A .route .now) (A .work .now) _ _ _ (p .1 .2) (p .1 .3) (k .ensures .1) (p .1 .0), k .kept .0)
 
--- src/search.rt:243:5
 try-left-requires : tie.Need-try-left-requires
-try-left-requires c κs = 
+try-left-requires c κs =
     let p = c .before .before .before .before .before .before .before .before .before .before .before .before .before .before .before .before .before .before .before .before .before .pre in
     let k = c .before .before .before .before .before .keep in
     rw (kept-part _ _ _ _ _ (p .1 .2) (p .1 .3) (k .ensures .1) (k .ensures .0)) (p .0 .admitted, (p .0 .place, kept-stops _ _ _ _ (p .1 .2) (p .1 .3) (p .0 .stops), p .1 .1, p .0 .check))
 
--- src/search.rt:205:1
 same-length : tie.Need-same-length
 same-length c = search needs
 
--- src/search.rt:205:1
 same-length-2 : tie.Need-same-length-2
 same-length-2 c = search needs
 
--- src/search.rt:205:1
 returns-2 : tie.Need-returns-2
-returns-2 c = 
+returns-2 c =
     let p = c .before .before .before .before .before .before .before .before .before .before .before .before .before .before .before .before .before .before .before .before .before .before .before .before .pre in
     let k = c .before .before .before .before .before .before .before .before .keep in
     out-tried _ _ _ _ _ _ _ _ _ _ (c .before .before .before .before .before .before .before .before .before .before .before .before .failure-sum .ensures) (c .before .before .before .before .before .before .before .before .before .before .before .fails-more .ensures) _ (c .before .before .before .before .before .before .before .before .before .before .if1 .left)

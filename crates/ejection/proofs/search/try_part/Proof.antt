@@ -1,45 +1,34 @@
+-- `search::try_part` meets its contract.
 use Prim.Native.Nat.{_-_}
 use Rattle.ejection.proofs.SearchLaws.{part-short}
-use native.Mathlib.Omega.{arith}
 use borrow.Author.Needs.{needs}
 use Rattle.ejection.proofs.search.try_part.Statement.{statement}
 use Rattle.ejection.proofs.search.try_part.Tie as tie
-use Rattle.ejection.proofs.search.try_part.Reads as reads
-use Rattle.ejection.proofs.search.try_part.Lts as lts
-use Rattle.ejection.proofs.search.try_some.Reads as try-some-reads
 
--- src/search.rt:536:9
 mul-try-some : tie.Need-mul-try-some
 mul-try-some c = search needs
 
--- src/search.rt:536:9
 sub-try-some : tie.Need-sub-try-some
 sub-try-some c = search needs
 
--- src/search.rt:536:9
 part-try-some-start : tie.Need-part-try-some-start
 part-try-some-start c = search needs
 
--- src/search.rt:536:9
 part-try-some-end : tie.Need-part-try-some-end
 part-try-some-end c = search needs
 
--- src/search.rt:532:5
 try-some-requires : tie.Need-try-some-requires
-try-some-requires c κs = 
+try-some-requires c κs =
     let A = c .before .before .before .before .before .before .before .before .before .before .before .before .before .before .args in
     let p = c .before .before .before .before .before .before .before .before .before .before .before .before .before .before .pre in
     (p .1 .0, (part-short (A .stops .now) (A .at) (A .end - A .at) _ (p .1 .1 .0), p .1 .1 .1))
 
--- src/search.rt:503:1
 same-length : tie.Need-same-length
 same-length c = search needs
 
--- src/search.rt:503:1
 same-length-2 : tie.Need-same-length-2
 same-length-2 c = search needs
 
--- src/search.rt:503:1
 returns : tie.Need-returns
 returns c = search needs
 

@@ -1,42 +1,30 @@
+-- `search::try_some` meets its contract.
 use Rattle.ejection.proofs.SearchLaws.{some-two, some-one}
-use native.Mathlib.Omega.{arith}
 use borrow.Author.Needs.{needs}
 use Rattle.ejection.proofs.search.try_some.Statement.{statement}
 use Rattle.ejection.proofs.search.try_some.Tie as tie
-use Rattle.ejection.proofs.search.try_some.Reads as reads
-use Rattle.ejection.proofs.search.try_some.Lts as lts
-use Rattle.ejection.proofs.search.try_one.Reads as try-one-reads
-use Rattle.ejection.proofs.search.try_two.Reads as try-two-reads
 
--- src/search.rt:459:9
 try-two-requires : tie.Need-try-two-requires
 try-two-requires c κs = search needs
 
--- src/search.rt:459:9
 same-length : tie.Need-same-length
 same-length c = search needs
 
--- src/search.rt:459:9
 same-length-2 : tie.Need-same-length-2
 same-length-2 c = search needs
 
--- src/search.rt:459:9
 returns : tie.Need-returns
 returns c = some-two _ _ _ _ _ _ _ _ (c .before .before .before .before .before .before .before .if1 .taken) (c .before .before .before .before .try-two .ensures)
 
--- src/search.rt:480:5
 try-one-requires : tie.Need-try-one-requires
 try-one-requires c κs = search needs
 
--- src/search.rt:432:1
 same-length-3 : tie.Need-same-length-3
 same-length-3 c = search needs
 
--- src/search.rt:432:1
 same-length-4 : tie.Need-same-length-4
 same-length-4 c = search needs
 
--- src/search.rt:432:1
 returns-2 : tie.Need-returns-2
 returns-2 c = some-one _ _ _ _ _ _ _ _ (c .before .before .before .before .before .before .before .if1 .left) (c .before .before .before .before .try-one .ensures)
 

@@ -1,4 +1,5 @@
-use Prim.Native.Nat.{_+_, _-_}
+-- `search::try_two` meets its contract.
+use Prim.Native.Nat.{_-_}
 use lib.ListN.{length}
 use Rattle.models.specs.Problem.{problem}
 use Rattle.ejection.specs.Eject.{try-two-from}
@@ -7,9 +8,6 @@ use borrow.Author.Needs.{needs}
 use native.Mathlib.Omega.{arith}
 use Rattle.ejection.proofs.search.try_two.Statement.{statement}
 use Rattle.ejection.proofs.search.try_two.Tie as tie
-use Rattle.ejection.proofs.search.try_two.Reads as reads
-use Rattle.ejection.proofs.search.try_two.Lts as lts
-use Rattle.ejection.proofs.search.try_two_from.Reads as try-two-from-reads
 
 abbrev Inv-loop : tie.InvT-loop
 Inv-loop work₀ cells₀ failures route k c needed vehicle demand n distances times service ready due penalty flags found₀ i₀ work cells found i =
@@ -18,37 +16,29 @@ Inv-loop work₀ cells₀ failures route k c needed vehicle demand n distances t
 abbrev μ-loop : tie.MeasureT-loop
 μ-loop work₀ cells₀ failures route k c needed vehicle demand n distances times service ready due penalty flags found₀ i₀ work cells found i = length route - i
 
--- src/search.rt:404:5
 loop-holds : tie.Need-loop-holds Inv-loop μ-loop
 loop-holds c = let p = c .before .before .before .before .before .before .before .before .before .before .before .pre in seeking-start _ _ _ _ _ _ _ _ _ _ (p .0) (p .1 .0) (p .1 .1)
 
--- src/search.rt:405:9
 try-two-from-requires : tie.Need-try-two-from-requires Inv-loop μ-loop
 try-two-from-requires c κs = let g = c .before .before .before .loop .inv in (g .sought, (g .work-room, g .cells-room, search needs))
 
--- src/search.rt:426:9
 add-i : tie.Need-add-i Inv-loop μ-loop
 add-i c = search needs
 
--- src/search.rt:404:5
 loop-less : tie.Need-loop-less Inv-loop μ-loop
 loop-less c = search needs
 
--- src/search.rt:404:5
 loop-again : tie.Need-loop-again Inv-loop μ-loop
-loop-again c = 
+loop-again c =
     let t = c .before .before .before .before .try-two-from in
     seeking-more _ _ _ _ _ _ _ _ _ _ _ _ _ _ (c .before .before .before .before .before .before .before .before .loop .inv) _ _ _ (c .before .before .before .before .before .before .before .loop-test .taken) (t .kept .0) (t .kept .1 .0) (t .ensures)
 
--- src/search.rt:377:1
 same-length : tie.Need-same-length Inv-loop μ-loop
 same-length c = search needs
 
--- src/search.rt:377:1
 same-length-2 : tie.Need-same-length-2 Inv-loop μ-loop
 same-length-2 c = search needs
 
--- src/search.rt:377:1
 returns : tie.Need-returns Inv-loop μ-loop
 returns c = two-is _ _ _ _ _ _ _ (seeking-end _ _ _ _ _ _ _ _ _ _ _ _ _ _ (c .before .loop .inv) (omega arith))
 

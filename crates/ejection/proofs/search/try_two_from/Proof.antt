@@ -1,3 +1,4 @@
+-- `search::try_two_from` meets its contract.
 use Prim.Native.Nat.{_+_, _-_}
 use lib.ListN.{length}
 use Rattle.models.specs.Problem.{problem}
@@ -7,9 +8,6 @@ use borrow.Author.Needs.{needs}
 use native.Mathlib.Omega.{arith}
 use Rattle.ejection.proofs.search.try_two_from.Statement.{statement}
 use Rattle.ejection.proofs.search.try_two_from.Tie as tie
-use Rattle.ejection.proofs.search.try_two_from.Reads as reads
-use Rattle.ejection.proofs.search.try_two_from.Lts as lts
-use Rattle.ejection.proofs.search.try_out.Reads as try-out-reads
 
 abbrev Inv-loop : tie.InvT-loop
 Inv-loop work₀ cells₀ failures route k i c needed vehicle demand n distances times service ready due penalty flags found₀ d₀ work cells found d =
@@ -18,53 +16,41 @@ Inv-loop work₀ cells₀ failures route k i c needed vehicle demand n distances
 abbrev μ-loop : tie.MeasureT-loop
 μ-loop work₀ cells₀ failures route k i c needed vehicle demand n distances times service ready due penalty flags found₀ d₀ work cells found d = length route - (i + 1) - d
 
--- src/search.rt:348:5
 loop-holds : tie.Need-loop-holds Inv-loop μ-loop
 loop-holds c = let p = c .before .before .before .before .before .before .before .before .before .before .before .pre in seeking-start _ _ _ _ _ _ _ _ _ _ (p .0) (p .1 .0) (p .1 .1)
 
--- src/search.rt:348:30
 add-loop : tie.Need-add-loop Inv-loop μ-loop
 add-loop c = search needs
 
--- src/search.rt:348:15
 sub-loop : tie.Need-sub-loop Inv-loop μ-loop
 sub-loop c = search needs
 
--- src/search.rt:356:13
 add-try-out : tie.Need-add-try-out Inv-loop μ-loop
 add-try-out c = search needs
 
--- src/search.rt:356:13
 add-try-out-2 : tie.Need-add-try-out-2 Inv-loop μ-loop
 add-try-out-2 c = search needs
 
--- src/search.rt:349:9
 try-out-requires : tie.Need-try-out-requires Inv-loop μ-loop
 try-out-requires c κs = let g = c .before .before .before .loop .inv in (g .sought, (g .work-room, g .cells-room, search needs, search needs))
 
--- src/search.rt:371:9
 add-d : tie.Need-add-d Inv-loop μ-loop
 add-d c = search needs
 
--- src/search.rt:348:5
 loop-less : tie.Need-loop-less Inv-loop μ-loop
 loop-less c = search needs
 
--- src/search.rt:348:5
 loop-again : tie.Need-loop-again Inv-loop μ-loop
-loop-again c = 
+loop-again c =
     let t = c .before .before .before .before .try-out in
     seeking-more _ _ _ _ _ _ _ _ _ _ _ _ _ _ (c .before .before .before .before .before .before .before .before .loop .inv) _ _ _ (c .before .before .before .before .before .before .before .loop-test .taken) (t .kept .0) (t .kept .1 .0) (t .ensures)
 
--- src/search.rt:320:1
 same-length : tie.Need-same-length Inv-loop μ-loop
 same-length c = search needs
 
--- src/search.rt:320:1
 same-length-2 : tie.Need-same-length-2 Inv-loop μ-loop
 same-length-2 c = search needs
 
--- src/search.rt:320:1
 returns : tie.Need-returns Inv-loop μ-loop
 returns c = two-from-is _ _ _ _ _ _ _ _ (seeking-end _ _ _ _ _ _ _ _ _ _ _ _ _ _ (c .before .loop .inv) (omega arith))
 
