@@ -9,6 +9,8 @@ pub mod Turns
 pub mod Minimized
 -- what the code asks of a state, and that a turn keeps it
 pub mod Pooled
+-- the state as the code holds it
+pub mod Running
 -- the cost falls
 pub mod Falls
 -- every definition, opened for theorems by computation

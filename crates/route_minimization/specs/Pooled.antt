@@ -23,20 +23,16 @@ use Rattle.route_minimization.specs.Minimize.{Allowance, State, Turn, st
 use Rattle.route_minimization.specs.Turns.{Then, turn-rule}
 use Rattle.route_minimization.specs.Minimized.{Placing, turn-placing}
 
--- with `left` steps to the limit
-pub record Pooled (p : Problem) (left : ℕ) (s : State) : Type 0 where
+-- n stops in plan and pool together, with `left` steps to the limit
+pub record Pooled (p : Problem) (n left : ℕ) (s : State) : Type 0 where
   pub places : (c : ℕ) → p .roads .size ≤ c → occurs c (s .routes) + count c (s .pool) ≡ 0
-  pub few : length (flat (s .routes)) + length (s .pool) ≤ 255
+  pub all : length (flat (s .routes)) + length (s .pool) ≡ n
   pub sized : length (s .failures) ≡ p .roads .size
   pub counted : (k : ℕ) → getD (s .failures) k 0 + left ≤ 65536
   pub drawn : s .counts .draws + 500 * left < 9_000_000_000_000_000_000
 
-pub pooled-planned : (p : Problem) (left : ℕ) (s : State) → Pooled p left s → Planned (p .roads .size) (s .routes)
-pooled-planned p left s h = record { few = omega (arith, h .few); places = λ c i. omega (arith, h .places c i) }
-
-pub pooled-fewer : (p : Problem) (left fewer : ℕ) (s : State) → fewer ≤ left → Pooled p left s → Pooled p fewer s
-pooled-fewer p left fewer s f h =
-    record { places = h .places; few = h .few; sized = h .sized; counted = λ k. omega (arith, h .counted k); drawn = omega (arith, h .drawn) }
+pub pooled-planned : (p : Problem) (n left : ℕ) (s : State) → n ≤ 256 → Pooled p n left s → Planned (p .roads .size) (s .routes)
+pooled-planned p n left s f h = record { few = omega (arith, h .all); places = λ c i. omega (arith, h .places c i) }
 
 -- ---- a turn
 
@@ -69,9 +65,9 @@ module _ (given : Allowance) (p : Problem) where
         drawn = perturb-draws p (given .tape) (record { routes = make-room (s .routes) c e; draws = s .counts .draws });
       })
 
-  pub pooled-more : (left : ℕ) (s t : State) → Pooled p (suc left) s → turn given p s (s .pool) ≡ more t → Pooled p left t
+  pub pooled-more : (n left : ℕ) (s t : State) → Pooled p n (suc left) s → turn given p s (s .pool) ≡ more t → Pooled p n left t
   unfolding flat
-  pooled-more left s t h e =
+  pooled-more n left s t h e =
       let before = s .pool ∷ s .routes in
       let same : Placing Any before (t .routes) (t .pool) =
       subst (Then (λ u. Placing Any before (u .routes) (u .pool)) _) e
@@ -84,7 +80,7 @@ module _ (given : Allowance) (p : Problem) where
       let rises : Rises s t = subst (Then (Rises s) (λ _. Unit)) e (turn-rises s) in
       record {
         places = λ c i. omega (arith, same .places c, count-append c (s .pool) (flat (s .routes)), h .places c i);
-        few = omega (arith, long, length-append (flat (t .routes)) (t .pool), length-append (s .pool) (flat (s .routes)), h .few);
+        all = omega (arith, long, length-append (flat (t .routes)) (t .pool), length-append (s .pool) (flat (s .routes)), h .all);
         sized = rises .sized ∙ h .sized;
         counted = λ k. omega (arith, rises .counted k, h .counted k);
         drawn = omega (arith, rises .drawn, h .drawn);
