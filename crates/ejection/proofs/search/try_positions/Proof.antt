@@ -1,9 +1,10 @@
 -- `search::try_positions` meets its contract.
+use native.Mathlib.Omega.{arith}
 use Prim.Native.Nat.{suc, _-_}
 use mathlib.Core.List.{[]}
 use lib.ListN.{length}
 use Rattle.models.specs.Problem.{problem}
-use Rattle.ejection.proofs.PositionLaws.{Trying, trying-laws}
+use Rattle.ejection.proofs.PositionLaws.{Trying, trying-more, trying-laws}
 use borrow.Author.Needs.{needs}
 use Rattle.ejection.proofs.search.try_positions.Statement.{statement}
 use Rattle.ejection.proofs.search.try_positions.Tie as tie
@@ -28,7 +29,7 @@ loop-less : tie.Need-loop-less Inv-loop μ-loop
 loop-less c = search needs
 
 loop-again : tie.Need-loop-again Inv-loop μ-loop
-loop-again c = search trying-laws
+loop-again c = trying-more _ _ _ _ _ _ _ _ _ (c .before .before .loop .inv) _ (omega arith) (c .try-in-kept .ensures)
 
 returns : tie.Need-returns Inv-loop μ-loop
 returns c = search trying-laws
