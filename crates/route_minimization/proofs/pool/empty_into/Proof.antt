@@ -59,7 +59,7 @@ same-length-12 : tie.Need-same-length-12 Inv-loop μ-loop
 same-length-12 c = search needs
 
 returns-2 : tie.Need-returns-2 Inv-loop μ-loop
-returns-2 c = let l = c .before .before .before .before .loop .inv in (looping-clocked _ _ _ _ _ _ _ _ _ _ _ _ _ _ _ _ _ _ _ l (c .before .before .before .loop-test .taken) (c .before .before .if1 .left) (c .if2 .taken), l .running .lent)
+returns-2 c = let l = c .before .before .before .before .loop .inv in (looping-clocked _ _ _ _ _ _ _ _ _ _ _ _ _ _ _ _ _ _ _ l (c .before .before .before .loop-test .taken) (c .before .before .if1 .left) (omega (arith, c .if2 .taken)), l .running .lent)
 
 sub-left : tie.Need-sub-left Inv-loop μ-loop
 sub-left c = search needs

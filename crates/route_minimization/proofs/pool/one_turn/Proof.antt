@@ -51,7 +51,7 @@ slice-read-failures : tie.Need-slice-read-failures
 slice-read-failures c = let q = c .before .before .before .before .before .before .before .before .before .before .before .before .before .before .before .before .before .before .before .before .before .before .before .before .before .before .before .pre in omega (arith, top-failures _ _ _ _ _ _ _ _ _ _ _ _ (q .0) (q .1 .0))
 
 add-failures : tie.Need-add-failures
-add-failures c = let q = c .before .before .before .before .before .before .before .before .before .before .before .before .before .before .before .before .before .before .before .before .before .before .before .before .before .before .before .pre in one-failure-fits _ _ _ _ _ _ _ _ _ _ _ _ (q .0) (q .1 .0) (le-refl 1)
+add-failures c = let q = c .before .before .before .before .before .before .before .before .before .before .before .before .before .before .before .before .before .before .before .before .before .before .before .before .before .before .before .pre in omega (arith, one-failure-fits _ _ _ _ _ _ _ _ _ _ _ _ (q .0) (q .1 .0) (le-refl 1))
 
 slice-write-failures : tie.Need-slice-write-failures
 slice-write-failures c = let q = c .before .before .before .before .before .before .before .before .before .before .before .before .before .before .before .before .before .before .before .before .before .before .before .before .before .before .before .pre in omega (arith, top-failures _ _ _ _ _ _ _ _ _ _ _ _ (q .0) (q .1 .0))
