@@ -1,6 +1,5 @@
 -- Laws of specs/Pass on the positions of one kept part, each from the facts that the code has where it needs it. Assumes nothing.
-use Prim.Native.Nat.{ℕ, suc, _+_, _≤_, _<_}
-use native.Mathlib.Omega.{arith}
+use Prim.Native.Nat.{ℕ, suc}
 use mathlib.Core.Path.{_≡_, refl, sym, _∙_}
 use mathlib.Core.Bool.{Bool, true, false}
 use mathlib.Core.List.{List, []}
@@ -8,22 +7,19 @@ use mathlib.Core.Option.{Option, some}
 use lib.ListN.{length}
 use lib.IntN.{ℤ}
 use lib.Ieee.{Float}
-use mir.Syntax.{w64}
-use mir.Val.{Fits}
 use borrow.Author.Needs.{needs}
-use Rattle.laws.specs.Loops.{loop, loop-none, loop-more, loop-end, loop-same}
+use Rattle.laws.specs.Loops.{loop, loop-same}
 use Rattle.models.specs.declared.vehicle.Vehicle.{Vehicle}
-use Rattle.models.specs.Problem.{Problem, problem, of-demand, Fit, Stops, depot}
+use Rattle.models.specs.Problem.{Problem, problem, of-demand, depot}
 use Rattle.local_search.specs.Route.{insertion-cost}
-use Rattle.local_search.specs.Feasible.{constrained, has-room}
+use Rattle.local_search.specs.Feasible.{has-room}
 use Rattle.local_search.proofs.ReadLaws.{insertion-any, room-any}
 use Rattle.quick_test.specs.Quick.{Times, times as times-along}
 use Rattle.quick_test.specs.Prepared.{held, Prepared, prepared-missed, prepared-read, prepared-any}
 use Rattle.insertion.specs.Pass.{may-pass}
 use Rattle.ejection.specs.declared.Ejection.{Ejection}
-use Rattle.ejection.specs.declared.Best.{Best}
 use Rattle.ejection.specs.declared.search.Out.{Out}
-use Rattle.ejection.specs.Eject.{chosen, outranks, try-in-kept, try-kept, try-left}
+use Rattle.ejection.specs.Eject.{outranks, try-in-kept, try-kept, try-left}
 use Rattle.ejection.specs.Pass.{pass-in-kept, pass-in-kept-room, try-in-kept-untimed}
 
 -- ---- one position: it does not outrank the best; c may not go in; it may
@@ -45,49 +41,10 @@ module _ (p : Problem) (c n k i j : ℕ) (left : List ℕ) (t : Times) (pos : �
 
 pub ruleset position-laws = (insertion-any, position-beaten, position-refused, position-taken)
 
--- ---- the loop: what the positions before pos leave of the best so far
+-- ---- a turn of the loop over positions
 
 abbrev pub pass-out : Problem → ℕ → Out → List ℕ → List Float → ℕ → Option Ejection → Option Ejection
 pass-out p c o left cells = pass-in-kept p c (o .failed) (o .route) (o .first) (o .second) left (held (length left) cells)
-
-pub record Trying (p : Problem) (c : ℕ) (o : Out) (left : List ℕ) (cells : List Float) (needed : Bool) (first found : Best) (pos : ℕ) : Type 0 where
-  pub fit : Fit (p .places) (p .roads)
-  pub home : depot p < p .roads .size
-  pub there : c < p .roads .size
-  pub stops : Stops (p .roads .size) left
-  pub room : 512 ≤ length cells
-  pub asked : needed ≡ constrained p
-  pub within : pos ≤ suc (length left)
-  pub same : chosen found ≡ loop pos (pass-out p c o left cells) (chosen first)
-
-module _ (p : Problem) (c : ℕ) (o : Out) (left : List ℕ) (cells : List Float) (needed : Bool) (first : Best) where
-  pub trying-start : Fit (p .places) (p .roads) → depot p < p .roads .size → c < p .roads .size → Stops (p .roads .size) left → 512 ≤ length cells
-      → needed ≡ constrained p → Trying p c o left cells needed first first 0
-  trying-start f d h s l e =
-      record { fit = f; home = d; there = h; stops = s; room = l; asked = e; within = omega arith; same = loop-none (pass-out p c o left cells) (chosen first) }
-
-  module _ (found : Best) (pos : ℕ) (g : Trying p c o left cells needed first found pos) where
-    pub trying-next : pos ≤ length left → Fits w64 (pos + 1)
-    trying-next h = record { fits = omega (arith, g .stops .few) }
-
-    pub trying-more : (next : Best) → pos ≤ length left → chosen next ≡ pass-out p c o left cells pos (chosen found)
-        → Trying p c o left cells needed first next (pos + 1)
-    trying-more next h e =
-        record {
-          fit = g .fit;
-          home = g .home;
-          there = g .there;
-          stops = g .stops;
-          room = g .room;
-          asked = g .asked;
-          within = omega arith;
-          same = loop-more (pass-out p c o left cells) (chosen first) pos (chosen found) (chosen next) (g .same) e;
-        }
-
-    pub trying-end : length left < pos → chosen found ≡ loop (suc (length left)) (pass-out p c o left cells) (chosen first)
-    trying-end h = loop-end (pass-out p c o left cells) (chosen first) pos (suc (length left)) (chosen found) (g .same) (omega (arith, g .within))
-
-pub ruleset trying-laws = (needs, trying-start, trying-next, trying-more, trying-end)
 
 -- ---- what is kept
 

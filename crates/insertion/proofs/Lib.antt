@@ -1,7 +1,9 @@
 -- Laws of this crate's definitions, as the code meets them.
 -- the tests of a position
 pub mod PassLaws
--- the positions of one route
+-- a loop over positions, for insertion and ejection
+pub mod AlongLaws
+-- one position of a route
 pub mod PositionLaws
 -- one route
 pub mod RouteLaws

@@ -5,34 +5,38 @@ use lib.ListN.{length}
 use borrow.Author.Needs.{needs}
 use native.Mathlib.Omega.{arith}
 use Rattle.models.specs.Problem.{problem}
-use Rattle.insertion.proofs.PositionLaws.{Trying, trying-more, trying-laws}
+use Rattle.local_search.specs.Route.{chosen}
+use Rattle.quick_test.specs.Prepared.{held}
+use Rattle.insertion.specs.Pass.{pass-position}
+use Rattle.insertion.proofs.AlongLaws.{Along, along-more, along-laws}
 use Rattle.insertion.proofs.try_positions.Statement.{statement}
 use Rattle.insertion.proofs.try_positions.Tie as tie
 
 abbrev Inv-loop : tie.InvT-loop
 Inv-loop route cells c k needed vehicle n distances times service ready due penalty flags found₀ pos₀ found pos =
-    Trying (problem n [] service ready due penalty flags distances times vehicle) c k route cells needed found₀ found pos
+    Along (problem n [] service ready due penalty flags distances times vehicle) c route cells needed
+    (pass-position (problem n [] service ready due penalty flags distances times vehicle) c k route (held (length route) cells)) (chosen found₀) (chosen found) pos
 
 abbrev μ-loop : tie.MeasureT-loop
 μ-loop route cells c k needed vehicle n distances times service ready due penalty flags found₀ pos₀ found pos = suc (length route) - pos
 
 loop-holds : tie.Need-loop-holds Inv-loop μ-loop
-loop-holds c = search trying-laws
+loop-holds c = search along-laws
 
 try-position-requires : tie.Need-try-position-requires Inv-loop μ-loop
 try-position-requires c κs = let g = c .before .loop .inv in (g .fit, (g .home, g .there, search needs, g .stops, g .room, g .asked))
 
 add-pos : tie.Need-add-pos Inv-loop μ-loop
-add-pos c = search trying-laws
+add-pos c = search along-laws
 
 loop-less : tie.Need-loop-less Inv-loop μ-loop
 loop-less c = search needs
 
 loop-again : tie.Need-loop-again Inv-loop μ-loop
-loop-again c = trying-more _ _ _ _ _ _ _ _ _ (c .before .before .loop .inv) _ (omega arith) (c .try-position .ensures)
+loop-again c = along-more _ _ _ _ _ _ _ _ _ (c .before .before .loop .inv) _ (omega arith) (c .try-position .ensures)
 
 returns : tie.Need-returns Inv-loop μ-loop
-returns c = search trying-laws
+returns c = search along-laws
 
 pub try-positions-spec : {M : Type 1} → statement M
 try-positions-spec =
