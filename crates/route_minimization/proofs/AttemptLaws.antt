@@ -166,12 +166,12 @@ module _ (p : Problem) (before : Float) (t : Tried) (plan : Plan) (counts : Coun
 -- ---- the plan without route r
 
 -- ls and s hold the plan, L and S what `erase_route` leaves, of whose lengths the first m are lent; the pool has the route's stops
-module _ {p : Problem} {tape : List ℕ} {needed : Bool} {limit : ℕ} {ls s work : List ℕ} {cells : List Float} {counted : Counts} {r : ℕ}
-    (g : Attempting p tape needed limit ls s work cells counted r) (L S pool : List ℕ) (start m : ℕ)
+module _ {p : Problem} {tape : List ℕ} {needed : Bool} {limit : ℕ} {ls s work : List ℕ} {cells : List Float} {counted : Counts} (r : ℕ)
+    (g : Attempting p tape needed limit ls s work cells counted) (there : r < length ls) (L S pool : List ℕ) (start m : ℕ)
     (e : L ≡ erase r ls ++ 0 ∷ []) (h : Holds (erase r (split ls s)) (total ls - getD ls r 0) (erase r ls) S)
     (long : length S ≡ length s) (top : stack pool start ≡ reverse (route r (split ls s))) (last : m ≡ length L - 1) where
   erased-length : suc (length (erase r ls)) ≡ length ls
-  erased-length = length-erase r ls (g .there)
+  erased-length = length-erase r ls there
 
   front : take (m - 0) L ≡ erase r ls
   front =
@@ -187,7 +187,7 @@ module _ {p : Problem} {tape : List ℕ} {needed : Bool} {limit : ℕ} {ls s wor
   routes = ap (λ (l : List ℕ). split l S) front ∙ h .routes
 
   in-plan : r < length (split ls s)
-  in-plan = rw length-split (g .there)
+  in-plan = rw length-split there
 
   pub starts-running : length pool ≡ 256 → Running p tape needed limit (take (m - 0) L) S pool work (replicate (p .roads .size) 1) cells start counted
   starts-running room =
@@ -255,8 +255,8 @@ module _ (ls s W : List ℕ) (few : length ls ≤ 256) (small : length s ≤ 255
           ∙ saved-stops ls s w W e 512 (omega arith) lent
 
 -- other work cells
-pub attempting-with : {p : Problem} {tape : List ℕ} {needed : Bool} {limit : ℕ} {ls s work : List ℕ} {cells : List Float} {counted : Counts} {r : ℕ} (free : List ℕ)
-    → Attempting p tape needed limit ls s work cells counted r → length s ≤ length free → Attempting p tape needed limit ls s free cells counted r
+pub attempting-with : {p : Problem} {tape : List ℕ} {needed : Bool} {limit : ℕ} {ls s work : List ℕ} {cells : List Float} {counted : Counts} (free : List ℕ)
+    → Attempting p tape needed limit ls s work cells counted → length s ≤ length free → Attempting p tape needed limit ls s free cells counted
 attempting-with free g h = record {
   admitted = g .admitted;
   check = g .check;
@@ -264,7 +264,6 @@ attempting-with free g h = record {
   whole = g .whole;
   few = g .few;
   planned = g .planned;
-  there = g .there;
   limited = g .limited;
   drawn = g .drawn;
   work-room = h;

@@ -18,15 +18,14 @@ use Rattle.route_minimization.specs.declared.attempt.Attempted.{Attempte
 use Rattle.route_minimization.specs.declared.attempt.Attempted.the-variants.{Kept, Accepted}
 use Rattle.route_minimization.specs.Minimize.{if-cheaper}
 
--- an attempt at route r of a plan that fills both slices
-pub record Attempting (p : Problem) (tape : List ℕ) (needed : Bool) (limit : ℕ) (lengths stops work : List ℕ) (cells : List Float) (counts : Counts) (r : ℕ) : Type 0 where
+-- an attempt at a route of a plan that fills both slices
+pub record Attempting (p : Problem) (tape : List ℕ) (needed : Bool) (limit : ℕ) (lengths stops work : List ℕ) (cells : List Float) (counts : Counts) : Type 0 where
   pub admitted : Admitted p
   pub check : needed ≡ route-checks-needed (p .places .flags) (limits-of (p .vehicle))
   pub drawable : 0 < length tape
   pub whole : total lengths ≡ length stops
   pub few : length stops ≤ 255
   pub planned : Planned (p .roads .size) (split lengths stops)
-  pub there : r < length lengths
   pub limited : limit ≤ 65535
   pub drawn : counts .draws + 500 * limit < 9_000_000_000_000_000_000
   pub work-room : length stops ≤ length work

@@ -13,6 +13,8 @@ pub mod Pooled
 pub mod Running
 -- an attempt as the code makes it
 pub mod Attempting
+-- the search as the code makes it
+pub mod Minimizing
 -- the cost falls
 pub mod Falls
 -- every definition, opened for theorems by computation

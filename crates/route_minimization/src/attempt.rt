@@ -209,8 +209,8 @@ fn try_without(
     flags: &[u8],
 ) -> Attempted
     requires { ⌜ Attempting (problem n (now demand) (now service) (now ready) (now due) (now penalty) (now flags) (now distances) (now times) vehicle) (now tape) needed limit
-        (now lengths) (now stops) (now work) (now cells) counted r ⌝ }
-    requires { ⌜ before ≡ cost (problem n (now demand) (now service) (now ready) (now due) (now penalty) (now flags) (now distances) (now times) vehicle) (split (now lengths) (now stops)) ⌝ }
+        (now lengths) (now stops) (now work) (now cells) counted ⌝ }
+    requires { ⌜ (r < length (now lengths)) × (before ≡ cost (problem n (now demand) (now service) (now ready) (now due) (now penalty) (now flags) (now distances) (now times) vehicle) (split (now lengths) (now stops))) ⌝ }
     ensures plan { λ a. ⌜ tried a (split (but-last (now (lengths .exit))) (now (stops .exit))) ≡ attempt (allowance limit clock (now (tape .entry))) (problem n (now (demand .entry)) (now (service .entry)) (now (ready .entry)) (now (due .entry)) (now (penalty .entry)) (now (flags .entry))
         (now (distances .entry)) (now (times .entry)) vehicle)
         (split (now (lengths .entry)) (now (stops .entry))) r counted ⌝ }
@@ -271,8 +271,8 @@ pub fn attempt(
     flags: &[u8],
 ) -> Attempted
     requires { ⌜ Attempting (problem n (now demand) (now service) (now ready) (now due) (now penalty) (now flags) (now distances) (now times) vehicle) (now tape) needed limit
-        (now lengths) (now stops) (now work) (now cells) counted r ⌝ }
-    requires { ⌜ (before ≡ cost (problem n (now demand) (now service) (now ready) (now due) (now penalty) (now flags) (now distances) (now times) vehicle) (split (now lengths) (now stops))) × (length (now lengths) ≤ 256) × (767 ≤ length (now work)) ⌝ }
+        (now lengths) (now stops) (now work) (now cells) counted ⌝ }
+    requires { ⌜ (r < length (now lengths)) × (before ≡ cost (problem n (now demand) (now service) (now ready) (now due) (now penalty) (now flags) (now distances) (now times) vehicle) (split (now lengths) (now stops))) × (length (now lengths) ≤ 256) × (767 ≤ length (now work)) ⌝ }
     ensures plan { λ a. ⌜ tried a (split (but-last (now (lengths .exit))) (now (stops .exit))) ≡ attempt (allowance limit clock (now (tape .entry))) (problem n (now (demand .entry)) (now (service .entry)) (now (ready .entry)) (now (due .entry)) (now (penalty .entry)) (now (flags .entry))
         (now (distances .entry)) (now (times .entry)) vehicle)
         (split (now (lengths .entry)) (now (stops .entry))) r counted ⌝ }

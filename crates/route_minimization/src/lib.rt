@@ -1,3 +1,4 @@
 // Route minimisation with an ejection pool (local_search/route_minimization.rs).
 pub mod attempt;
 pub mod pool;
+pub mod round;

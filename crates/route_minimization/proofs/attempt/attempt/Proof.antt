@@ -33,8 +33,8 @@ try-without-requires c κs =
     let st = c .before .before .before .before .before .before .before .before .before .before .before .before .before .before .before .before .before .before .before .before .before .before in
     let w = c .before .before .before .before .before .before .save in
     let q = st .pre in
-    let room : 767 ≤ length (w .last .0) = omega (arith, w .kept .0, q .1 .2) in
-    (attempting-with _ (q .0) (scratch-room (st .args .lengths .now) (st .args .stops .now) (w .last .0) (q .1 .1) (q .0 .few) room), q .1 .0)
+    let room : 767 ≤ length (w .last .0) = omega (arith, w .kept .0, q .1 .3) in
+    (attempting-with _ (q .0) (scratch-room (st .args .lengths .now) (st .args .stops .now) (w .last .0) (q .1 .2) (q .0 .few) room), (q .1 .0, q .1 .1))
 
 -- src/attempt.rt:305:28
 enum-known-tried : tie.Need-enum-known-tried
@@ -47,8 +47,8 @@ restore-requires c κs =
     let w = c .before .before .before .before .before .before .before .before .before .before .before .before .before .before .before .before .before .before .before .before .before .save in
     let t = c .before .before .before .before .before .before .before .before .before .before .before .before .before .before .try-without in
     let q = st .pre in
-    let room : 767 ≤ length (w .last .0) = omega (arith, w .kept .0, q .1 .2) in
-    restorable (st .args .lengths .now) (st .args .stops .now) (w .last .0) (q .1 .1) (q .0 .few) room _ (t .last .0) (t .last .1 .0) (t .kept .0) (t .kept .1 .0)
+    let room : 767 ≤ length (w .last .0) = omega (arith, w .kept .0, q .1 .3) in
+    restorable (st .args .lengths .now) (st .args .stops .now) (w .last .0) (q .1 .2) (q .0 .few) room _ (t .last .0) (t .last .1 .0) (t .kept .0) (t .kept .1 .0)
 
 -- src/attempt.rt:307:9
 same-length : tie.Need-same-length
@@ -74,11 +74,11 @@ returns c =
     let t = c .before .before .before .before .before .before .before .before .before .before .before .before .before .before .before .before .before .before .before .try-without in
     let r = c .before .before .before .before .restore in
     let q = st .pre in
-    let room : 767 ≤ length (w .last .0) = omega (arith, w .kept .0, q .1 .2) in (
+    let room : 767 ≤ length (w .last .0) = omega (arith, w .kept .0, q .1 .3) in (
       kept-tried _ _ _ _ (t .ensures .0) (c .before .before .before .before .before .before .before .before .before .tried .given .1),
       (
-        restored-lengths (st .args .lengths .now) (st .args .stops .now) (w .last .0) (q .1 .1) (q .0 .few) room _ (t .last .0) (t .last .1 .0) (t .kept .0) (t .kept .1 .0) _ (w .ensures) _ (r .ensures .0),
-        restored-stops (st .args .lengths .now) (st .args .stops .now) (w .last .0) (q .1 .1) (q .0 .few) room _ (t .last .0) (t .last .1 .0) (t .kept .0) (t .kept .1 .0) _ (w .ensures) _ (r .ensures .1),
+        restored-lengths (st .args .lengths .now) (st .args .stops .now) (w .last .0) (q .1 .2) (q .0 .few) room _ (t .last .0) (t .last .1 .0) (t .kept .0) (t .kept .1 .0) _ (w .ensures) _ (r .ensures .0),
+        restored-stops (st .args .lengths .now) (st .args .stops .now) (w .last .0) (q .1 .2) (q .0 .few) room _ (t .last .0) (t .last .1 .0) (t .kept .0) (t .kept .1 .0) _ (w .ensures) _ (r .ensures .1),
       ),
     )
 

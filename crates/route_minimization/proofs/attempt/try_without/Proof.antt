@@ -47,7 +47,7 @@ try-rest-requires : tie.Need-try-rest-requires
 try-rest-requires c κs =
     let x = c .before .before .before .before .before .before .before .before .before .erase-route in
     let t = c .before .before .before .before .before .before .before .before .before .before .before .before .before .to-pool in
-    starts-running (c .before .before .before .before .before .before .before .before .before .before .before .before .before .before .before .before .before .before .before .before .before .before .before .before .before .before .before .before .before .pre .0) _ _ _ _ _ (x .ensures .0) (x .ensures .1) (x .kept .1 .0) (t .ensures) refl (t .kept .0)
+    starts-running _ (c .before .before .before .before .before .before .before .before .before .before .before .before .before .before .before .before .before .before .before .before .before .before .before .before .before .before .before .before .before .pre .0) (c .before .before .before .before .before .before .before .before .before .before .before .before .before .before .before .before .before .before .before .before .before .before .before .before .before .before .before .before .before .pre .1 .0) _ _ _ _ _ (x .ensures .0) (x .ensures .1) (x .kept .1 .0) (t .ensures) refl (t .kept .0)
 
 -- src/attempt.rt:188:1
 same-length : tie.Need-same-length
@@ -72,8 +72,8 @@ returns c =
     let t = c .before .before .before .before .before .before .before .before .before .before .before .before .before .before .before .before .before .before .before .before .before .before .before .to-pool in
     let a = c .before .before .before .before .before .before .before .before .before .try-rest in
     let q = c .before .before .before .before .before .before .before .before .before .before .before .before .before .before .before .before .before .before .before .before .before .before .before .before .before .before .before .before .before .before .before .before .before .before .before .before .before .before .before .pre in (
-      without-tried (q .0) _ _ _ _ _ (x .ensures .0) (x .ensures .1) (x .kept .1 .0) (t .ensures) refl (a .last .0) (a .last .1 .0) (a .kept .0) _ _ (a .result) (q .1) refl (a .ensures .0),
-      ends-with-0 (q .0) _ _ _ _ _ (x .ensures .0) (x .ensures .1) (x .kept .1 .0) (t .ensures) refl _ _ (a .kept .0) (a .ensures .1),
+      without-tried _ (q .0) (q .1 .0) _ _ _ _ _ (x .ensures .0) (x .ensures .1) (x .kept .1 .0) (t .ensures) refl (a .last .0) (a .last .1 .0) (a .kept .0) _ _ (a .result) (q .1 .1) refl (a .ensures .0),
+      ends-with-0 _ (q .0) (q .1 .0) _ _ _ _ _ (x .ensures .0) (x .ensures .1) (x .kept .1 .0) (t .ensures) refl _ _ (a .kept .0) (a .ensures .1),
     )
 
 pub try-without-spec : {M : Type 1} → statement M
