@@ -137,7 +137,7 @@ module _ (given : Allowance) {p : Problem} {tape : List ℕ} {needed : Bool} {li
       planned-stops (p .roads .size) plan (each-found (Planned (p .roads .size)) (t .plan) d (pool-planned given p (length s) few limit (state ls s pool start failures counted) (g .pooled)))
 
 -- the cost reads the distances alone
-cost-whole : (p : Problem) (plan : Plan) → cost (of-distances (p .roads .size) (p .roads .distances) (p .vehicle)) plan ≡ cost p plan
+pub cost-whole : (p : Problem) (plan : Plan) → cost (of-distances (p .roads .size) (p .roads .distances) (p .vehicle)) plan ≡ cost p plan
 cost-whole p plan =
     let c = p .places in
     cost-any (p .roads .size) (p .demand) (c .service) (c .ready) (c .due) (c .penalty) (c .flags) (p .roads .distances) (p .roads .times) (p .vehicle) plan _ refl

@@ -5,3 +5,5 @@ pub mod AttemptLaws
 pub mod RoundLaws
 -- the next attempt of a round
 pub mod NextLaws
+-- the search
+pub mod MinimizeLaws

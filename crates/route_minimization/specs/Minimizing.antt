@@ -1,9 +1,11 @@
 -- The search as the code makes it: what the next attempt of a round answers and leaves, and what the call answers. Assumes nothing.
-use Prim.Native.Nat.{ℕ, suc, _+_, _<_}
+use Prim.Native.Nat.{ℕ, suc, _+_, _≤_, _<_}
 use mathlib.Core.Path.{_≡_}
 use mathlib.Core.List.{List}
 use mathlib.Core.Option.{none, some}
 use lib.ListN.{length}
+use lib.Ieee.{Float}
+use Rattle.models.specs.Problem.{Problem, Admitted}
 use Rattle.plan.specs.declared.order.Pick.{Pick}
 use Rattle.plan.specs.Plan.{Plan, Slices, split, total, written}
 use Rattle.plan.specs.Order.{following}
@@ -47,3 +49,15 @@ pub record Answers (x : Result) (size count : ℕ) (counts : Counts) (lengths st
   pub routes : count ≡ length (x .plan)
   pub counted : counts ≡ x .counts
   pub slices : _≡_ {A = Slices} (record { lengths = lengths; stops = stops }) (written size (x .plan))
+
+-- a search over a plan that fills both slices
+pub record Searching (p : Problem) (tape : List ℕ) (limit : ℕ) (lengths stops work : List ℕ) (cells : List Float) : Type 0 where
+  pub admitted : Admitted p
+  pub drawable : 0 < length tape
+  pub limited : limit ≤ 65535
+  pub whole : total lengths ≡ length stops
+  pub few : length stops ≤ 255
+  pub routes-few : length lengths ≤ 256
+  pub planned : Planned (p .roads .size) (split lengths stops)
+  pub work-room : 767 ≤ length work
+  pub cells-room : 512 ≤ length cells
