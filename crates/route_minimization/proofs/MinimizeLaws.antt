@@ -1,7 +1,7 @@
 -- The search: a record for its rounds and one for the attempts of a round, and what begins, keeps and ends each of them. Assumes nothing.
 use Prim.Native.Nat.{ℕ, zero, suc, _+_, _-_, _*_, _≤_, _<_}
 use mathlib.Core.Path.{_≡_, refl, sym, ap, subst, _∙_}
-use mathlib.Core.Bool.{Bool, not}
+use mathlib.Core.Bool.{Bool, true, false, not}
 use mathlib.Core.List.{List, [], _∷_, _++_, append-assoc}
 use mathlib.Core.Option.{none, some}
 use native.Mathlib.Nat.{le-refl, not-suc-le-zero, suc-mul, mul-add, mul-comm, mul-le-mul-left, mul-le-mul-right}
@@ -15,7 +15,7 @@ use Rattle.laws.specs.Sorts.{range, smallest, sort-by, length-sort-by, length-r
 use Rattle.laws.specs.Counts.{count as count-of}
 use Rattle.models.specs.RouteLimits.{limits-of}
 use Rattle.models.specs.Problem.{Problem, Admitted, of-distances}
-use Rattle.evaluation.specs.Check.{route-checks-needed}
+use Rattle.evaluation.specs.Check.{has-soft-windows, route-checks-needed}
 use Rattle.plan.specs.declared.order.Pick.{Pick}
 use Rattle.plan.specs.declared.order.Pick.the-variants.{Nothing, At}
 use Rattle.plan.specs.Plan.{Plan, Slices, Lent, split, flat, lengths-of, total, padded, written, drop-zero, drop-empty}
@@ -363,3 +363,23 @@ module _ (given : Allowance) (p : Problem) where
         after-accepted ls₀ s₀ work₀ cells₀ W C a b d i j w c r =
             round-again Y S m long taken ls₀ s₀ work₀ cells₀ W C a b d i j w c r
             (ap (λ (y : Next). tried-next (attempt given p) (split (take count ls) s) (take count ls) n y (split (but-last Y) S)) (sym f) ∙ e)
+
+-- ---- the call
+
+module _ (given : Allowance) (p : Problem) (ls s : List ℕ) (v : Bool) (e : v ≡ has-soft-windows (p .places .flags)) where
+  pub soft-answers : total ls ≡ length s → v ≡ true → Answers (minimize-routes given p (split ls s)) (length ls) (length ls) (record { steps = 0; draws = 0 }) ls s
+  unfolding minimize-routes
+  soft-answers w f =
+      let own : lengths-of (split ls s) ≡ ls = lengths-split ls s (omega arith) in
+      let lengths : ls ≡ padded (length ls) (lengths-of (split ls s)) = sym (ap (padded (length ls)) own ∙ padded-full ls) in
+      let stops : s ≡ flat (split ls s) = sym (flat-split-all ls s w) in
+      rw (← e, f) (record {
+        routes = sym (length-split ls s);
+        counted = refl;
+        slices = ap (λ (l : List ℕ). record { lengths = l; stops = s }) lengths ∙ ap (λ (l : List ℕ). record { lengths = padded (length ls) (lengths-of (split ls s)); stops = l }) stops;
+      })
+
+  pub search-answers : (size k : ℕ) (n : Counts) (L S : List ℕ) → v ≡ false → Answers (reduce (attempt given p) (split ls s)) size k n L S
+      → Answers (minimize-routes given p (split ls s)) size k n L S
+  unfolding minimize-routes
+  search-answers size k n L S f h = rw (← e, f) h

@@ -87,7 +87,10 @@ fn search(
             );
             match next {
                 Next::End => {
-                    return Minimized { routes: count, counts };
+                    return Minimized {
+                        routes: count,
+                        counts,
+                    };
                 }
                 Next::Kept(pick, tried) => {
                     last = pick;
@@ -129,7 +132,10 @@ pub fn minimize_routes(
         (split (now (lengths .entry)) (now (stops .entry)))) (length (now (lengths .entry))) (r .routes) (r .counts) (now (lengths .exit)) (now (stops .exit)) ⌝ }
 {
     if has_soft_windows(flags) {
-        return Minimized { routes: lengths.len(), counts: Counts { steps: 0, draws: 0 } };
+        return Minimized {
+            routes: lengths.len(),
+            counts: Counts { steps: 0, draws: 0 },
+        };
     }
     let needed = constrained(flags, vehicle);
     search(

@@ -1,18 +1,15 @@
-use mathlib.Core.Path.{refl, sym, ap, _∙_}
+-- `search` meets its contract.
+use mathlib.Core.Path.{sym, ap, _∙_}
+use native.Mathlib.Omega.{arith}
+use borrow.Author.Needs.{needs}
 use lib.ListN.{length, take}
 use Rattle.models.specs.Problem.{problem}
 use Rattle.plan.specs.Plan.{drop-zero}
 use Rattle.plan.specs.Order.{following}
 use Rattle.route_minimization.specs.Running.{allowance}
 use Rattle.route_minimization.proofs.MinimizeLaws.{Rounding, Trying, rounding-start, round-lent, round-same, trying-start, front-length, front-in, trying-attempt, trying-cost, trying-few, back-long, at-end, after-kept-less, after-kept, after-accepted-less, after-accepted}
-use borrow.Author.Needs.{needs}
-use native.Mathlib.Omega.{arith}
 use Rattle.route_minimization.proofs.search.Statement.{statement}
 use Rattle.route_minimization.proofs.search.Tie as tie
-use Rattle.route_minimization.proofs.search.Reads as reads
-use Rattle.route_minimization.proofs.search.Lts as lts
-use Rattle.route_minimization.proofs.round.begin.Reads as begin-reads
-use Rattle.route_minimization.proofs.round.try_next.Reads as try-next-reads
 
 abbrev Inv-loop : tie.InvT-loop
 Inv-loop lengths₀ stops₀ work₀ cells₀ tape limit clock needed vehicle demand n distances times service ready due penalty flags counts₀ round count last₀ lengths stops work cells counts last =
@@ -30,19 +27,16 @@ abbrev μ-search : tie.MeasureT-search
 μ-search lengths₀ stops₀ work₀ cells₀ tape limit clock needed vehicle demand n distances times service ready due penalty flags counts₀ lengths stops work cells counts =
     length (drop-zero lengths)
 
--- src/lib.rt:60:5
 search-holds : tie.Need-search-holds Inv-loop μ-loop Inv-search μ-search
 search-holds c =
     rounding-start _ _ _ _ _ _ _ (c .before .before .before .before .before .before .before .before .before .before .before .before .pre .0)
 
--- src/lib.rt:61:13
 begin-requires : tie.Need-begin-requires Inv-loop μ-loop Inv-search μ-search
 begin-requires c κs =
     let q = c .before .before .before .before .before .before .before .before .before .before .before .before .before .before .before .pre .0 in
     let o = c .before .before .search .inv in
     ((q .admitted .fit .square .few, q .admitted .fit .square .distance-cells, q .admitted .depot-in), (round-lent _ _ o (q .few), o .planned))
 
--- src/lib.rt:64:9
 loop-holds : tie.Need-loop-holds Inv-loop μ-loop Inv-search μ-search
 loop-holds c =
     let q = c .before .before .before .before .before .before .before .before .before .before .before .before .before .before .before .before .before .before .pre .0 in
@@ -50,35 +44,29 @@ loop-holds c =
     let b = c .before .before .begin in
     trying-start _ _ o (q .few) _ _ (b .ensures .0) (b .ensures .1 .0) _ (q .routes-few) (b .ensures .1 .1)
 
--- src/lib.rt:66:17
 slice-relend-prefix-try-next :
     tie.Need-slice-relend-prefix-try-next Inv-loop μ-loop Inv-search μ-search
 slice-relend-prefix-try-next c =
     front-in _ _ (c .loop .inv)
 
--- src/lib.rt:66:17
 slice-aggregate-try-next : tie.Need-slice-aggregate-try-next Inv-loop μ-loop Inv-search μ-search
 slice-aggregate-try-next c =
     sym (front-length _ _ (c .before .loop .inv))
 
--- src/lib.rt:65:17
 try-next-requires : tie.Need-try-next-requires Inv-loop μ-loop Inv-search μ-search
 try-next-requires c κs =
     let st = c .before .before .before .before .before .before .before .before .before .before .before .before .before .before .before .before .before .before .before .before .before .before .before in
     let q = st .pre .0 in
     let o = c .before .before .before .before .before .before .before .before .before .before .search .inv in
     let b = c .before .before .before .before .before .before .before .begin in
-    let g = c .before .before .before .before .loop .inv in
-    (
+    let g = c .before .before .before .before .loop .inv in (
       trying-attempt _ _ g _ _ (q .admitted) (st .pre .1) (q .drawable) (q .limited) (omega (arith, q .work-room, o .work-long)) (omega (arith, q .cells-room, o .cells-long)),
       (trying-cost _ _ g, trying-few _ _ g, omega (arith, q .work-room, o .work-long, g .work-long), g .drawn),
     )
 
--- src/lib.rt:90:21
 enum-told : tie.Need-enum-told Inv-loop μ-loop Inv-search μ-search
 enum-told c = search needs
 
--- src/lib.rt:90:21
 same-length : tie.Need-same-length Inv-loop μ-loop Inv-search μ-search
 same-length c =
     let st = c .before .before .before .before .before .before .before .before .before .before .before .before .before .before .before .before .before .before .before .before .before .before .before .before .before .before .before .before .before .before .before .before .before .before in
@@ -89,7 +77,6 @@ same-length c =
     let t = c .before .before .before .before .before .before .before .before .before .before .try-next in
     back-long _ _ g (t .last .0) (t .kept .0) ∙ ap length (g .same-lengths) ∙ b .kept .0 ∙ o .long
 
--- src/lib.rt:90:21
 same-length-2 : tie.Need-same-length-2 Inv-loop μ-loop Inv-search μ-search
 same-length-2 c =
     let st = c .before .before .before .before .before .before .before .before .before .before .before .before .before .before .before .before .before .before .before .before .before .before .before .before .before .before .before .before .before .before .before .before .before .before in
@@ -100,7 +87,6 @@ same-length-2 c =
     let t = c .before .before .before .before .before .before .before .before .before .before .try-next in
     t .kept .1 .0 ∙ ap length (g .same-stops) ∙ o .stops-long
 
--- src/lib.rt:90:21
 same-length-3 : tie.Need-same-length-3 Inv-loop μ-loop Inv-search μ-search
 same-length-3 c =
     let st = c .before .before .before .before .before .before .before .before .before .before .before .before .before .before .before .before .before .before .before .before .before .before .before .before .before .before .before .before .before .before .before .before .before .before in
@@ -111,7 +97,6 @@ same-length-3 c =
     let t = c .before .before .before .before .before .before .before .before .before .before .try-next in
     t .kept .1 .1 .0 ∙ g .work-long ∙ o .work-long
 
--- src/lib.rt:90:21
 same-length-4 : tie.Need-same-length-4 Inv-loop μ-loop Inv-search μ-search
 same-length-4 c =
     let st = c .before .before .before .before .before .before .before .before .before .before .before .before .before .before .before .before .before .before .before .before .before .before .before .before .before .before .before .before .before .before .before .before .before .before in
@@ -122,7 +107,6 @@ same-length-4 c =
     let t = c .before .before .before .before .before .before .before .before .before .before .try-next in
     t .kept .1 .1 .1 .0 ∙ g .cells-long ∙ o .cells-long
 
--- src/lib.rt:90:21
 returns : tie.Need-returns Inv-loop μ-loop Inv-search μ-search
 returns c =
     let st = c .before .before .before .before .before .before .before .before .before .before .before .before .before .before .before .before .before .before .before .before .before .before .before .before .before .before .before .before .before .before .before .before .before .before in
@@ -133,11 +117,9 @@ returns c =
     let t = c .before .before .before .before .before .before .before .before .before .before .try-next in
     at-end _ _ g _ _ _ (t .ensures .0) (t .ensures .1) _ _ (round-same _ _ o (q .few) _ _ (b .ensures .0) (b .ensures .1 .0)) (sym (b .kept .0 ∙ o .long)) (c .enum-told .given .1)
 
--- src/lib.rt:92:28
 enum-known-next : tie.Need-enum-known-next Inv-loop μ-loop Inv-search μ-search
 enum-known-next c = search needs
 
--- src/lib.rt:64:9
 loop-less : tie.Need-loop-less Inv-loop μ-loop Inv-search μ-search
 loop-less c =
     let st = c .before .before .before .before .before .before .before .before .before .before .before .before .before .before .before .before .before .before .before .before .before .before .before .before .before .before .before .before .before .before .before .before .before .before .before in
@@ -148,7 +130,6 @@ loop-less c =
     let t = c .before .before .before .before .before .before .before .before .before .before .before .try-next in
     after-kept-less _ _ g _ _ _ (t .ensures .0) (t .ensures .1) _ _ (c .before .next .given .1)
 
--- src/lib.rt:64:9
 loop-again : tie.Need-loop-again Inv-loop μ-loop Inv-search μ-search
 loop-again c =
     let st = c .before .before .before .before .before .before .before .before .before .before .before .before .before .before .before .before .before .before .before .before .before .before .before .before .before .before .before .before .before .before .before .before .before .before .before in
@@ -159,11 +140,9 @@ loop-again c =
     let t = c .before .before .before .before .before .before .before .before .before .before .before .try-next in
     after-kept _ _ g _ _ _ (t .ensures .0) (t .ensures .1) _ _ (c .before .next .given .1) _ _ (t .kept .1 .1 .0) (t .kept .1 .1 .1 .0)
 
--- src/lib.rt:96:32
 enum-known-next-2 : tie.Need-enum-known-next-2 Inv-loop μ-loop Inv-search μ-search
 enum-known-next-2 c = search needs
 
--- src/lib.rt:60:5
 search-less : tie.Need-search-less Inv-loop μ-loop Inv-search μ-search
 search-less c =
     let st = c .before .before .before .before .before .before .before .before .before .before .before .before .before .before .before .before .before .before .before .before .before .before .before .before .before .before .before .before .before .before .before .before .before .before .before in
@@ -174,7 +153,6 @@ search-less c =
     let t = c .before .before .before .before .before .before .before .before .before .before .before .try-next in
     after-accepted-less _ _ g _ _ _ (t .ensures .0) (t .ensures .1) _ (t .kept .0) (c .before .next2 .given .1) _ (b .ensures .1 .0)
 
--- src/lib.rt:60:5
 search-again : tie.Need-search-again Inv-loop μ-loop Inv-search μ-search
 search-again c =
     let st = c .before .before .before .before .before .before .before .before .before .before .before .before .before .before .before .before .before .before .before .before .before .before .before .before .before .before .before .before .before .before .before .before .before .before .before in

@@ -1,33 +1,24 @@
+-- `attempt::attempt` meets its contract.
 use Prim.Native.Nat.{_≤_}
-use lib.ListN.{length}
-use Rattle.route_minimization.proofs.AttemptLaws.{attempting-with, scratch-room, restorable, restored-lengths, restored-stops, kept-tried, accepted-leaves}
 use native.Mathlib.Omega.{arith}
 use borrow.Author.Needs.{needs}
+use lib.ListN.{length}
+use Rattle.route_minimization.proofs.AttemptLaws.{attempting-with, scratch-room, restorable, restored-lengths, restored-stops, kept-tried, accepted-leaves}
 use Rattle.route_minimization.proofs.attempt.attempt.Statement.{statement}
 use Rattle.route_minimization.proofs.attempt.attempt.Tie as tie
-use Rattle.route_minimization.proofs.attempt.attempt.Reads as reads
-use Rattle.route_minimization.proofs.attempt.attempt.Lts as lts
-use Rattle.plan.proofs.restore.Reads as restore-reads
-use Rattle.plan.proofs.save.Reads as save-reads
-use Rattle.route_minimization.proofs.attempt.try_without.Reads as try-without-reads
 
--- src/attempt.rt:281:5
 save-requires : tie.Need-save-requires
 save-requires c κs = search needs
 
--- src/attempt.rt:285:9
 sub-try-without : tie.Need-sub-try-without
 sub-try-without c = search needs
 
--- src/attempt.rt:285:9
 part-try-without-start : tie.Need-part-try-without-start
 part-try-without-start c = search needs
 
--- src/attempt.rt:285:9
 part-try-without-end : tie.Need-part-try-without-end
 part-try-without-end c = search needs
 
--- src/attempt.rt:282:9
 try-without-requires : tie.Need-try-without-requires
 try-without-requires c κs =
     let st = c .before .before .before .before .before .before .before .before .before .before .before .before .before .before .before .before .before .before .before .before .before .before in
@@ -36,11 +27,9 @@ try-without-requires c κs =
     let room : 767 ≤ length (w .last .0) = omega (arith, w .kept .0, q .1 .3) in
     (attempting-with _ (q .0) (scratch-room (st .args .lengths .now) (st .args .stops .now) (w .last .0) (q .1 .2) (q .0 .few) room), (q .1 .0, q .1 .1))
 
--- src/attempt.rt:305:28
 enum-known-tried : tie.Need-enum-known-tried
 enum-known-tried c = search needs
 
--- src/attempt.rt:306:9
 restore-requires : tie.Need-restore-requires
 restore-requires c κs =
     let st = c .before .before .before .before .before .before .before .before .before .before .before .before .before .before .before .before .before .before .before .before .before .before .before .before .before .before .before .before .before .before .before .before .before .before .before .before .before in
@@ -50,23 +39,18 @@ restore-requires c κs =
     let room : 767 ≤ length (w .last .0) = omega (arith, w .kept .0, q .1 .3) in
     restorable (st .args .lengths .now) (st .args .stops .now) (w .last .0) (q .1 .2) (q .0 .few) room _ (t .last .0) (t .last .1 .0) (t .kept .0) (t .kept .1 .0)
 
--- src/attempt.rt:307:9
 same-length : tie.Need-same-length
 same-length c = search needs
 
--- src/attempt.rt:307:9
 same-length-2 : tie.Need-same-length-2
 same-length-2 c = search needs
 
--- src/attempt.rt:307:9
 same-length-3 : tie.Need-same-length-3
 same-length-3 c = search needs
 
--- src/attempt.rt:307:9
 same-length-4 : tie.Need-same-length-4
 same-length-4 c = search needs
 
--- src/attempt.rt:307:9
 returns : tie.Need-returns
 returns c =
     let st = c .before .before .before .before .before .before .before .before .before .before .before .before .before .before .before .before .before .before .before .before .before .before .before .before .before .before .before .before .before .before .before .before .before .before .before .before .before .before .before .before .before .before in
@@ -85,23 +69,18 @@ returns c =
 enum-told : tie.Need-enum-told
 enum-told c = search needs
 
--- src/attempt.rt:250:1
 same-length-5 : tie.Need-same-length-5
 same-length-5 c = search needs
 
--- src/attempt.rt:250:1
 same-length-6 : tie.Need-same-length-6
 same-length-6 c = search needs
 
--- src/attempt.rt:250:1
 same-length-7 : tie.Need-same-length-7
 same-length-7 c = search needs
 
--- src/attempt.rt:250:1
 same-length-8 : tie.Need-same-length-8
 same-length-8 c = search needs
 
--- src/attempt.rt:250:1
 returns-2 : tie.Need-returns-2
 returns-2 c =
     let t = c .before .before .before .before .before .before .before .before .before .before .try-without in

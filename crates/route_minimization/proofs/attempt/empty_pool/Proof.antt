@@ -1,50 +1,37 @@
-use Rattle.route_minimization.proofs.AttemptLaws.{ones-running, ones-emptied}
-use native.Mathlib.Omega.{arith}
+-- `attempt::empty_pool` meets its contract.
 use borrow.Author.Needs.{needs}
+use Rattle.route_minimization.proofs.AttemptLaws.{ones-running, ones-emptied}
 use Rattle.route_minimization.proofs.attempt.empty_pool.Statement.{statement}
 use Rattle.route_minimization.proofs.attempt.empty_pool.Tie as tie
-use Rattle.route_minimization.proofs.attempt.empty_pool.Reads as reads
-use Rattle.route_minimization.proofs.attempt.empty_pool.Lts as lts
-use Rattle.route_minimization.proofs.pool.empty_into.Reads as empty-into-reads
 
--- src/attempt.rt:98:9
 sub-empty-into : tie.Need-sub-empty-into
 sub-empty-into c = search needs
 
--- src/attempt.rt:98:9
 part-failures-start : tie.Need-part-failures-start
 part-failures-start c = search needs
 
--- src/attempt.rt:98:9
 part-failures-end : tie.Need-part-failures-end
 part-failures-end c = search needs
 
--- src/attempt.rt:93:5
 empty-into-requires : tie.Need-empty-into-requires
 empty-into-requires c κs =
     ones-running (c .before .before .before .before .before .before .before .before .before .before .before .before .before .before .before .before .before .before .before .pre)
 
--- src/attempt.rt:62:1
 same-length : tie.Need-same-length
 same-length c = search needs
 
--- src/attempt.rt:62:1
 same-length-2 : tie.Need-same-length-2
 same-length-2 c = search needs
 
--- src/attempt.rt:62:1
 same-length-3 : tie.Need-same-length-3
 same-length-3 c = search needs
 
--- src/attempt.rt:62:1
 same-length-4 : tie.Need-same-length-4
 same-length-4 c = search needs
 
--- src/attempt.rt:62:1
 same-length-5 : tie.Need-same-length-5
 same-length-5 c = search needs
 
--- src/attempt.rt:62:1
 returns : tie.Need-returns
 returns c =
     let e = c .before .before .before .before .before .before .before .before .before .before .before .empty-into .ensures in

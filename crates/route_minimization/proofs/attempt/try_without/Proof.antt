@@ -1,71 +1,52 @@
+-- `attempt::try_without` meets its contract.
 use mathlib.Core.Path.{refl}
-use Rattle.route_minimization.proofs.AttemptLaws.{starts-running, without-tried, ends-with-0}
-use native.Mathlib.Omega.{arith}
 use borrow.Author.Needs.{needs}
+use Rattle.route_minimization.proofs.AttemptLaws.{starts-running, without-tried, ends-with-0}
 use Rattle.route_minimization.proofs.attempt.try_without.Statement.{statement}
 use Rattle.route_minimization.proofs.attempt.try_without.Tie as tie
-use Rattle.route_minimization.proofs.attempt.try_without.Reads as reads
-use Rattle.route_minimization.proofs.attempt.try_without.Lts as lts
-use Rattle.plan.proofs.erase_route.Reads as erase-route-reads
-use Rattle.route_minimization.proofs.attempt.to_pool.Reads as to-pool-reads
-use Rattle.route_minimization.proofs.attempt.try_rest.Reads as try-rest-reads
 
--- src/attempt.rt:220:25
 slice-aggregate-to-pool : tie.Need-slice-aggregate-to-pool
 slice-aggregate-to-pool c = search needs
 
--- src/attempt.rt:220:9
 to-pool-requires : tie.Need-to-pool-requires
 to-pool-requires c κs = search needs
 
--- src/attempt.rt:221:5
 erase-route-requires : tie.Need-erase-route-requires
 erase-route-requires c κs = search needs
 
--- src/attempt.rt:222:16
 sub-rest : tie.Need-sub-rest
 sub-rest c = search needs
 
--- src/attempt.rt:224:9
 sub-try-rest : tie.Need-sub-try-rest
 sub-try-rest c = search needs
 
--- src/attempt.rt:224:9
 part-try-rest-start : tie.Need-part-try-rest-start
 part-try-rest-start c = search needs
 
--- src/attempt.rt:224:9
 part-try-rest-end : tie.Need-part-try-rest-end
 part-try-rest-end c = search needs
 
--- src/attempt.rt:226:9
 slice-aggregate-try-rest : tie.Need-slice-aggregate-try-rest
 slice-aggregate-try-rest c = search needs
 
--- src/attempt.rt:223:5
 try-rest-requires : tie.Need-try-rest-requires
 try-rest-requires c κs =
     let x = c .before .before .before .before .before .before .before .before .before .erase-route in
     let t = c .before .before .before .before .before .before .before .before .before .before .before .before .before .to-pool in
     starts-running _ (c .before .before .before .before .before .before .before .before .before .before .before .before .before .before .before .before .before .before .before .before .before .before .before .before .before .before .before .before .before .pre .0) (c .before .before .before .before .before .before .before .before .before .before .before .before .before .before .before .before .before .before .before .before .before .before .before .before .before .before .before .before .before .pre .1 .0) _ _ _ _ _ (x .ensures .0) (x .ensures .1) (x .kept .1 .0) (t .ensures) refl (t .kept .0)
 
--- src/attempt.rt:188:1
 same-length : tie.Need-same-length
 same-length c = search needs
 
--- src/attempt.rt:188:1
 same-length-2 : tie.Need-same-length-2
 same-length-2 c = search needs
 
--- src/attempt.rt:188:1
 same-length-3 : tie.Need-same-length-3
 same-length-3 c = search needs
 
--- src/attempt.rt:188:1
 same-length-4 : tie.Need-same-length-4
 same-length-4 c = search needs
 
--- src/attempt.rt:188:1
 returns : tie.Need-returns
 returns c =
     let x = c .before .before .before .before .before .before .before .before .before .before .before .before .before .before .before .before .before .before .before .erase-route in

@@ -1,27 +1,21 @@
+-- `round::cost_of` meets its contract.
 use mathlib.Core.Path.{sym}
+use borrow.Author.Needs.{needs}
 use lib.Seq.{length-take-le}
 use Rattle.local_search.specs.Planned.{planned-stops}
-use native.Mathlib.Omega.{arith}
-use borrow.Author.Needs.{needs}
 use Rattle.route_minimization.proofs.round.cost_of.Statement.{statement}
 use Rattle.route_minimization.proofs.round.cost_of.Tie as tie
-use Rattle.route_minimization.proofs.round.cost_of.Reads as reads
-use Rattle.route_minimization.proofs.round.cost_of.Lts as lts
-use Rattle.local_search.proofs.route.plan_cost.Reads as plan-cost-reads
 
--- src/round.rt:50:15
 slice-aggregate-plan-cost : tie.Need-slice-aggregate-plan-cost
 slice-aggregate-plan-cost c =
     let st = c .before .before .before .before in
     sym (length-take-le (st .args .count) (st .args .lengths .now) (st .pre .1 .0))
 
--- src/round.rt:50:5
 plan-cost-requires : tie.Need-plan-cost-requires
 plan-cost-requires c κs =
     let q = c .before .before .before .before .pre in
     ((q .0 .0, q .0 .1), (q .0 .2, q .1 .1, planned-stops _ _ (q .1 .2)))
 
--- src/round.rt:38:1
 returns : tie.Need-returns
 returns c = search needs
 

@@ -1,66 +1,49 @@
+-- `round::try_next` meets its contract.
 use mathlib.Core.Path.{refl}
-use Rattle.route_minimization.proofs.NextLaws.{no-pick, pick-there, next-kept, next-refused, next-accepted, next-taken}
-use native.Mathlib.Omega.{arith}
 use borrow.Author.Needs.{needs}
+use Rattle.route_minimization.proofs.NextLaws.{no-pick, pick-there, next-kept, next-refused, next-accepted, next-taken}
 use Rattle.route_minimization.proofs.round.try_next.Statement.{statement}
 use Rattle.route_minimization.proofs.round.try_next.Tie as tie
-use Rattle.route_minimization.proofs.round.try_next.Reads as reads
-use Rattle.route_minimization.proofs.round.try_next.Lts as lts
-use Rattle.plan.proofs.order.next_pick.Reads as next-pick-reads
-use Rattle.route_minimization.proofs.attempt.attempt.Reads as attempt-reads
 
--- src/round.rt:106:9
 next-pick-requires : tie.Need-next-pick-requires
 next-pick-requires c κs = search needs
 
--- src/round.rt:107:18
 enum-known-pick : tie.Need-enum-known-pick
 enum-known-pick c = search needs
 
--- src/round.rt:108:9
 enum-told : tie.Need-enum-told
 enum-told c = search needs
 
--- src/round.rt:108:9
 same-length : tie.Need-same-length
 same-length c = search needs
 
--- src/round.rt:108:9
 returns : tie.Need-returns
 returns c =
     (no-pick _ _ _ (c .before .before .next-pick .ensures) _ _ _ (c .enum-told .given .1), (refl, refl))
 
--- src/round.rt:110:9
 attempt-requires : tie.Need-attempt-requires
 attempt-requires c κs =
     let q = c .before .before .before .before .before .before .before .before .before .before .before .before .before .before .before .before .before .before .before .before .before .pre in
     (q .0, (pick-there _ _ _ (c .before .before .before .before .before .before .before .next-pick .ensures) _ _ (c .before .before .before .before .before .pick .given .1), q .1 .0, q .1 .1, q .1 .2))
 
--- src/round.rt:134:25
 enum-known-tried : tie.Need-enum-known-tried
 enum-known-tried c = search needs
 
--- src/round.rt:135:29
 enum-known-tried-2 : tie.Need-enum-known-tried-2
 enum-known-tried-2 c = search needs
 
--- src/round.rt:73:1
 same-length-2 : tie.Need-same-length-2
 same-length-2 c = search needs
 
--- src/round.rt:73:1
 same-length-3 : tie.Need-same-length-3
 same-length-3 c = search needs
 
--- src/round.rt:73:1
 same-length-4 : tie.Need-same-length-4
 same-length-4 c = search needs
 
--- src/round.rt:73:1
 same-length-5 : tie.Need-same-length-5
 same-length-5 c = search needs
 
--- src/round.rt:73:1
 returns-2 : tie.Need-returns-2
 returns-2 c =
     let q = c .before .before .before .before .before .before .before .before .before .before .before .before .before .before .before .before .before .before .before .before .before .before .before .before .before .before .before .before .before .before .before .before .before .pre in
@@ -70,23 +53,18 @@ returns-2 c =
     let f = c .before .tried .given .1 in
     (next-kept _ _ _ (u .ensures) _ _ (k .given .1) _ _ _ _ _ _ _ (t .ensures .0) (t .ensures .1) _ f, next-refused _ _ _ (u .ensures) _ _ (k .given .1) _ _ _ _ _ _ _ (t .ensures .0) (t .ensures .1) _ f (q .1 .3))
 
--- src/round.rt:73:1
 same-length-6 : tie.Need-same-length-6
 same-length-6 c = search needs
 
--- src/round.rt:73:1
 same-length-7 : tie.Need-same-length-7
 same-length-7 c = search needs
 
--- src/round.rt:73:1
 same-length-8 : tie.Need-same-length-8
 same-length-8 c = search needs
 
--- src/round.rt:73:1
 same-length-9 : tie.Need-same-length-9
 same-length-9 c = search needs
 
--- src/round.rt:73:1
 returns-3 : tie.Need-returns-3
 returns-3 c =
     let q = c .before .before .before .before .before .before .before .before .before .before .before .before .before .before .before .before .before .before .before .before .before .before .before .before .before .before .before .before .before .before .before .before .before .pre in
