@@ -5,3 +5,12 @@ pub mod PoolLaws
 pub mod TurnLaws
 -- the loop that empties the pool
 pub mod LoopLaws
+-- Laws for the proofs of the code.
+-- an attempt to empty a route
+pub mod AttemptLaws
+-- the rounds of attempts
+pub mod RoundLaws
+-- the next attempt of a round
+pub mod NextLaws
+-- the search
+pub mod MinimizeLaws

@@ -11,6 +11,10 @@ pub mod Minimized
 pub mod Pooled
 -- the state as the code holds it
 pub mod Running
+-- an attempt as the code makes it
+pub mod Attempting
+-- the search as the code makes it
+pub mod Minimizing
 -- the cost falls
 pub mod Falls
 -- every definition, opened for theorems by computation

@@ -1,2 +1,161 @@
 // Route minimisation with an ejection pool (local_search/route_minimization.rs).
+ghost use mathlib.Core.Path.{_≡_};
+ghost use lib.ListN.{length};
+ghost use Rattle.models.specs.RouteLimits.{limits-of};
+ghost use Rattle.models.specs.Problem.{problem};
+ghost use Rattle.evaluation.specs.Check.{route-checks-needed};
+ghost use Rattle.plan.specs.Plan.{split};
+ghost use Rattle.local_search.specs.Rounds.{reduce};
+ghost use Rattle.route_minimization.specs.Minimize.{attempt, minimize-routes};
+ghost use Rattle.route_minimization.specs.Running.{allowance};
+ghost use Rattle.route_minimization.specs.Minimizing.{Searching, Answers};
+use crate::round::Next;
+use crate::round::begin;
+use crate::round::try_next;
+use evaluation::check::has_soft_windows;
+use local_search::feasible::constrained;
+use local_search::rounds::Counts;
+use models::vehicle::Vehicle;
+use plan::order::Pick;
+
+pub mod attempt;
 pub mod pool;
+pub mod round;
+
+// What a call answers: how many routes are left, and what its attempts count.
+pub struct Minimized {
+    pub routes: usize,
+    pub counts: Counts,
+}
+
+// Rounds of attempts, begun again from the shortest route as soon as one is accepted.
+fn search(
+    lengths: &mut [u16],
+    stops: &mut [u16],
+    work: &mut [u16],
+    cells: &mut [f64],
+    tape: &[u64],
+    limit: usize,
+    clock: u64,
+    needed: bool,
+    vehicle: Vehicle,
+    demand: &[i32],
+    n: usize,
+    distances: &[f64],
+    times: &[f64],
+    service: &[f64],
+    ready: &[f64],
+    due: &[f64],
+    penalty: &[f64],
+    flags: &[u8],
+) -> Minimized
+    requires { ⌜ Searching (problem n (now demand) (now service) (now ready) (now due) (now penalty) (now flags) (now distances) (now times) vehicle) (now tape) limit
+        (now lengths) (now stops) (now work) (now cells) ⌝ }
+    requires { ⌜ needed ≡ route-checks-needed (now flags) (limits-of vehicle) ⌝ }
+    ensures { λ r. ⌜ Answers (reduce (attempt (allowance limit clock (now (tape .entry))) (problem n (now (demand .entry)) (now (service .entry)) (now (ready .entry)) (now (due .entry)) (now (penalty .entry)) (now (flags .entry))
+        (now (distances .entry)) (now (times .entry)) vehicle))
+        (split (now (lengths .entry)) (now (stops .entry)))) (length (now (lengths .entry))) (r .routes) (r .counts) (now (lengths .exit)) (now (stops .exit)) ⌝ }
+{
+    let mut counts = Counts { steps: 0, draws: 0 };
+    'search: loop {
+        let round = begin(lengths, stops, vehicle, n, distances);
+        let count = round.count;
+        let mut last = Pick::Nothing;
+        loop {
+            let next = try_next(
+                &mut lengths[..count],
+                stops,
+                work,
+                cells,
+                tape,
+                last,
+                round.before,
+                limit,
+                clock,
+                counts,
+                needed,
+                vehicle,
+                demand,
+                n,
+                distances,
+                times,
+                service,
+                ready,
+                due,
+                penalty,
+                flags,
+            );
+            match next {
+                Next::End => {
+                    return Minimized {
+                        routes: count,
+                        counts,
+                    };
+                }
+                Next::Kept(pick, tried) => {
+                    last = pick;
+                    counts = tried;
+                }
+                Next::Accepted(tried) => {
+                    counts = tried;
+                    continue 'search;
+                }
+            }
+        }
+    }
+}
+
+// `minimize_routes`: with a soft window the plan comes back as given, otherwise with as many routes fewer as the attempts find.
+pub fn minimize_routes(
+    lengths: &mut [u16],
+    stops: &mut [u16],
+    work: &mut [u16],
+    cells: &mut [f64],
+    tape: &[u64],
+    limit: usize,
+    clock: u64,
+    vehicle: Vehicle,
+    demand: &[i32],
+    n: usize,
+    distances: &[f64],
+    times: &[f64],
+    service: &[f64],
+    ready: &[f64],
+    due: &[f64],
+    penalty: &[f64],
+    flags: &[u8],
+) -> Minimized
+    requires { ⌜ Searching (problem n (now demand) (now service) (now ready) (now due) (now penalty) (now flags) (now distances) (now times) vehicle) (now tape) limit
+        (now lengths) (now stops) (now work) (now cells) ⌝ }
+    ensures { λ r. ⌜ Answers (minimize-routes (allowance limit clock (now (tape .entry))) (problem n (now (demand .entry)) (now (service .entry)) (now (ready .entry)) (now (due .entry)) (now (penalty .entry)) (now (flags .entry))
+        (now (distances .entry)) (now (times .entry)) vehicle)
+        (split (now (lengths .entry)) (now (stops .entry)))) (length (now (lengths .entry))) (r .routes) (r .counts) (now (lengths .exit)) (now (stops .exit)) ⌝ }
+{
+    if has_soft_windows(flags) {
+        return Minimized {
+            routes: lengths.len(),
+            counts: Counts { steps: 0, draws: 0 },
+        };
+    }
+    let needed = constrained(flags, vehicle);
+    search(
+        lengths,
+        stops,
+        work,
+        cells,
+        tape,
+        limit,
+        clock,
+        needed,
+        vehicle,
+        demand,
+        n,
+        distances,
+        times,
+        service,
+        ready,
+        due,
+        penalty,
+        flags,
+    )
+}
