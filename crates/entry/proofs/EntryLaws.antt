@@ -12,9 +12,9 @@ use Rattle.laws.specs.Searches.{and-first, and-second}
 use Rattle.models.specs.Problem.{Problem}
 use Rattle.models.specs.Valid.{sizes-pass, values-pass, windows-pass, depot-passes, valid}
 use Rattle.plan.specs.Plan.{Slices, total}
-use Rattle.planner.specs.Table.{Work, Inputs, bad-lengths, stops-pass, table, first-applying, refusal}
-use Rattle.planner.specs.Run.{entry}
-use Rattle.planner.proofs.StopsLaws.{both}
+use Rattle.entry.specs.Table.{Work, Inputs, bad-lengths, stops-pass, table, first-applying, refusal}
+use Rattle.entry.specs.Given.{entry}
+use Rattle.entry.proofs.StopsLaws.{both}
 
 -- the inputs of a call on a plan, whatever else it is given
 abbrev pub call-inputs : Problem → Slices → Option (List ℕ) → Option ℕ → Option Work → Inputs

@@ -13,7 +13,7 @@ use lib.Dec.{eqb, ltb}
 use Rattle.laws.specs.Counts.{one-if, count, count-append, count-parts}
 use Rattle.laws.specs.Searches.{any, every, and-first, and-second, every-at}
 use Rattle.models.specs.Problem.{Problem, depot}
-use Rattle.planner.specs.Table.{stop-passes, stops-pass}
+use Rattle.entry.specs.Table.{stop-passes, stops-pass}
 
 pub both : {a b : Bool} → a ≡ true → b ≡ true → (a && b) ≡ true
 both {a} {b} e f = rw (e, f)
