@@ -1,5 +1,5 @@
 -- What each public call gives the table. Assumes nothing.
-use Prim.Native.Nat.{ℕ}
+use Prim.Native.Nat.{ℕ, zero, suc}
 use mathlib.Core.List.{List}
 use mathlib.Core.Option.{Option, none, some}
 use Rattle.models.specs.declared.vehicle.VehicleBreak.{VehicleBreak}
@@ -35,7 +35,7 @@ minimise-inputs p s tape limit w = record { problem = p; rest = none; plan = som
 abbrev pub entry : Problem → Slices → Option ℕ
 entry p s = refusal (plan-inputs p s)
 
--- a refusal as the code returns it, 0 where there is none
-abbrev pub numbered : Option ℕ → ℕ
-numbered none = 0
-numbered (some n) = n
+-- a number as the code returns it: 0 where there is no refusal
+abbrev pub numbered : ℕ → Option ℕ
+numbered zero = none
+numbered (suc n) = some (suc n)

@@ -3,3 +3,5 @@
 pub mod Table
 -- what each call gives it
 pub mod Given
+-- the table's rows in groups, as the code asks them
+pub mod Rows
