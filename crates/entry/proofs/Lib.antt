@@ -17,3 +17,5 @@ pub mod StopLaws
 pub mod GroupLaws
 -- the refusals of the calls
 pub mod RefusalLaws
+-- what a call that is not refused may rely on
+pub mod AdmittedLaws

@@ -14,7 +14,7 @@ is-amount-requires : tie.Need-is-amount-requires
 is-amount-requires c κs = search needs
 
 returns : tie.Need-returns
-returns c = search limit-at
+returns c = search needs
 
 returns-2 : tie.Need-returns-2
 returns-2 c = search limit-at

@@ -14,7 +14,7 @@ break-passes-requires : tie.Need-break-passes-requires
 break-passes-requires c κs = search needs
 
 returns : tie.Need-returns
-returns c = search rest-at
+returns c = search needs
 
 returns-2 : tie.Need-returns-2
 returns-2 c = search rest-at
