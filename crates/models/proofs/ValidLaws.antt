@@ -61,25 +61,8 @@ either : (a b : Bool) → (a || b) ≡ true → (a ≡ true) ⊎ (b ≡ true)
 either true b e = inl refl
 either false b e = inr e
 
-module _ (p : Problem) (v : valid p ≡ true) where
-  row-1 : sizes-pass p ≡ true
-  unfolding valid
-  row-1 = and-first (sizes-pass p) (values-pass p && (windows-pass p && depot-passes p)) v
-
-  row-2 : values-pass p ≡ true
-  unfolding valid
-  row-2 = and-first (values-pass p) (windows-pass p && depot-passes p) (and-second (sizes-pass p) (values-pass p && (windows-pass p && depot-passes p)) v)
-
-  row-4 : depot-passes p ≡ true
-  unfolding valid
-  row-4 =
-      and-second (windows-pass p) (depot-passes p)
-      (and-second (values-pass p) (windows-pass p && depot-passes p) (and-second (sizes-pass p) (values-pass p && (windows-pass p && depot-passes p)) v))
-
-  pub valid-depot : depot p < p .roads .size
-  valid-depot = ltb-true (depot p) (p .roads .size) row-4
-
-  -- row 1
+-- row 1
+module _ (p : Problem) (row-1 : sizes-pass p ≡ true) where
   sizes : (count-passes (p .roads .size) ≡ true) × (eqb (length (p .demand)) (p .roads .size) ≡ true) × (cells-pass (p .places) (p .roads .size) ≡ true) × (matrix-passes (p .roads) ≡ true)
   unfolding sizes-pass
   sizes =
@@ -91,14 +74,14 @@ module _ (p : Problem) (v : valid p ≡ true) where
       let s = and-second b (c && d) r in
       (and-first a (b && (c && d)) row-1, and-first b (c && d) r, and-first c d s, and-second c d s)
 
-  pub valid-count : p .roads .size ≤ 256
-  valid-count = leb-true (p .roads .size) 256 (and-second (not (eqb (p .roads .size) 0)) (leb (p .roads .size) 256) (sizes .0))
+  pub sizes-count : p .roads .size ≤ 256
+  sizes-count = leb-true (p .roads .size) 256 (and-second (not (eqb (p .roads .size) 0)) (leb (p .roads .size) 256) (sizes .0))
 
-  pub valid-demand : length (p .demand) ≡ p .roads .size
-  valid-demand = eqb-true (length (p .demand)) (p .roads .size) (sizes .1)
+  pub sizes-demand : length (p .demand) ≡ p .roads .size
+  sizes-demand = eqb-true (length (p .demand)) (p .roads .size) (sizes .1)
 
-  pub valid-sized : Sized (p .places) (p .roads .size)
-  valid-sized =
+  pub sizes-sized : Sized (p .places) (p .roads .size)
+  sizes-sized =
       let cs = p .places in
       let k = p .roads .size in
       let a = eqb (length (cs .service)) k in
@@ -117,14 +100,14 @@ module _ (p : Problem) (v : valid p ≡ true) where
         flag-cells = eqb-true (length (cs .flags)) k (and-second d e t);
       }
 
-  pub valid-square : Square (p .roads)
-  valid-square =
+  pub sizes-square : Square (p .roads)
+  sizes-square =
       let m = p .roads in
       let a = eqb (length (m .distances)) (m .size * m .size) in
       let b = eqb (length (m .times)) 0 in
       let c = eqb (length (m .times)) (m .size * m .size) in
       record {
-        few = valid-count;
+        few = sizes-count;
         distance-cells = eqb-true (length (m .distances)) (m .size * m .size) (and-first a (b || c) (sizes .3));
         time-cells = go b c (eqb-true (length (m .times)) 0) (eqb-true (length (m .times)) (m .size * m .size)) (either b c (and-second a (b || c) (sizes .3)));
       }
@@ -133,6 +116,36 @@ module _ (p : Problem) (v : valid p ≡ true) where
           → (b ≡ true) ⊎ (c ≡ true) → (length (p .roads .times) ≡ 0) ⊎ (length (p .roads .times) ≡ p .roads .size * p .roads .size)
       go b c f g (inl e) = inl (f e)
       go b c f g (inr e) = inr (g e)
+
+module _ (p : Problem) (v : valid p ≡ true) where
+  row-1 : sizes-pass p ≡ true
+  unfolding valid
+  row-1 = and-first (sizes-pass p) (values-pass p && (windows-pass p && depot-passes p)) v
+
+  row-2 : values-pass p ≡ true
+  unfolding valid
+  row-2 = and-first (values-pass p) (windows-pass p && depot-passes p) (and-second (sizes-pass p) (values-pass p && (windows-pass p && depot-passes p)) v)
+
+  row-4 : depot-passes p ≡ true
+  unfolding valid
+  row-4 =
+      and-second (windows-pass p) (depot-passes p)
+      (and-second (values-pass p) (windows-pass p && depot-passes p) (and-second (sizes-pass p) (values-pass p && (windows-pass p && depot-passes p)) v))
+
+  pub valid-depot : depot p < p .roads .size
+  valid-depot = ltb-true (depot p) (p .roads .size) row-4
+
+  pub valid-count : p .roads .size ≤ 256
+  valid-count = sizes-count p row-1
+
+  pub valid-demand : length (p .demand) ≡ p .roads .size
+  valid-demand = sizes-demand p row-1
+
+  pub valid-sized : Sized (p .places) (p .roads .size)
+  valid-sized = sizes-sized p row-1
+
+  pub valid-square : Square (p .roads)
+  valid-square = sizes-square p row-1
 
   pub valid-fit : Fit (p .places) (p .roads)
   valid-fit = record { sized = valid-sized; square = valid-square }

@@ -26,11 +26,12 @@ use Rattle.route_minimization.specs.Minimized.{Minimized, minimize-keeps}
 use Rattle.route_minimization.specs.Falls.{minimize-falls}
 use Rattle.route_elimination.specs.Eliminate.{eliminate-routes}
 use Rattle.route_elimination.specs.Eliminated.{Eliminated, eliminate-keeps}
-use Rattle.planner.specs.Table.{Work, refusal}
-use Rattle.planner.specs.Calls.{refused, Reply, plan-in, reply, minimise-inputs, eliminate-inputs, public-minimise, public-eliminate}
-use Rattle.planner.specs.Run.{Call, minimise, eliminate, call, run, entry, counts-of, steps, draws, granted, limits, routes-in, Along, along-nil, along-cons, Cheaper, Kept, Demand, Claim}
-use Rattle.planner.proofs.StopsLaws.{distinct-same, stops-distinct, distinct-stops}
-use Rattle.planner.proofs.EntryLaws.{entry-first, entered, enter}
+use Rattle.entry.specs.Table.{Work, refusal}
+use Rattle.entry.specs.Given.{entry, minimise-inputs, eliminate-inputs}
+use Rattle.entry.proofs.StopsLaws.{distinct-same, stops-distinct, distinct-stops}
+use Rattle.entry.proofs.EntryLaws.{entry-first, entered, enter}
+use Rattle.planner.specs.Calls.{refused, Reply, plan-in, reply, public-minimise, public-eliminate}
+use Rattle.planner.specs.Run.{Call, minimise, eliminate, call, run, counts-of, steps, draws, granted, limits, routes-in, Along, along-nil, along-cons, Cheaper, Kept, Demand, Claim}
 
 -- ---- the slices that a call leaves
 
@@ -122,7 +123,7 @@ module _ (p : Problem) (first : Slices) where
 
   after-minimise : (s : Slices) (given : Allowance) (w : Work) → Reached s → After s (minimise given w) (public-minimise p s given w)
   unfolding public-minimise reply
-  after-minimise s given w h = go (refusal (minimise-inputs p s given w))
+  after-minimise s given w h = go (refusal (minimise-inputs p s (given .tape) (given .limit) w))
     where
       x : Result
       x = minimize-routes given p (plan-in s)

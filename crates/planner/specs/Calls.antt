@@ -21,7 +21,8 @@ use Rattle.local_search.specs.declared.rounds.Counts.{Counts}
 use Rattle.local_search.specs.Rounds.{Result}
 use Rattle.route_minimization.specs.Minimize.{Allowance, minimize-routes}
 use Rattle.route_elimination.specs.Eliminate.{eliminate-routes}
-use Rattle.planner.specs.Table.{Work, Inputs, refusal}
+use Rattle.entry.specs.Table.{Work, refusal}
+use Rattle.entry.specs.Given.{problem-inputs, route-inputs, schedule-inputs, minimise-inputs, eliminate-inputs}
 
 -- "A refusal returns its number only"
 pub data Answer (A : Type 0) : Type 0 where
@@ -33,18 +34,6 @@ unless-refused none a = answered a
 unless-refused (some n) a = refused n
 
 -- ---- questions about a route or the problem. "rows 1 to 4 over the whole problem, then 6 over the route"
-
--- a call that is given the problem alone
-abbrev pub problem-inputs : Problem → Inputs
-problem-inputs p = record { problem = p; rest = none; plan = none; route = none; tape = none; limit = none; work = none }
-
--- a route beside it
-abbrev pub route-inputs : Problem → List ℕ → Inputs
-route-inputs p r = record { problem = p; rest = none; plan = none; route = some r; tape = none; limit = none; work = none }
-
--- a route and a break beside it
-abbrev pub schedule-inputs : Problem → VehicleBreak → List ℕ → Inputs
-schedule-inputs p b r = record { problem = p; rest = some b; plan = none; route = some r; tape = none; limit = none; work = none }
 
 -- `route_feasible`
 unfoldable pub public-route-feasible : Problem → List ℕ → Answer Bool
@@ -99,18 +88,9 @@ unfoldable pub reply : Slices → Option ℕ → Result → Reply
 reply s (some n) x = record { answer = refused n; slices = s }
 reply s none x = record { answer = answered (record { routes = length (x .plan); counts = x .counts }); slices = written (length (s .lengths)) (x .plan) }
 
--- rows 1 to 9
-abbrev pub minimise-inputs : Problem → Slices → Allowance → Work → Inputs
-minimise-inputs p s given w =
-    record { problem = p; rest = none; plan = some s; route = none; tape = some (given .tape); limit = some (given .limit); work = some w }
-
--- rows 1 to 6 and 9
-abbrev pub eliminate-inputs : Problem → Slices → Work → Inputs
-eliminate-inputs p s w = record { problem = p; rest = none; plan = some s; route = none; tape = none; limit = none; work = some w }
-
 -- minimise
 unfoldable pub public-minimise : Problem → Slices → Allowance → Work → Reply
-public-minimise p s given w = reply s (refusal (minimise-inputs p s given w)) (minimize-routes given p (plan-in s))
+public-minimise p s given w = reply s (refusal (minimise-inputs p s (given .tape) (given .limit) w)) (minimize-routes given p (plan-in s))
 
 -- eliminate, whose counts are 0
 unfoldable pub public-eliminate : Problem → Slices → Work → Reply

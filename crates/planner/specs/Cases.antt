@@ -19,7 +19,7 @@ use Rattle.evaluation.specs.declared.schedule.Taken.the-variants.{No as NotTake
 use Rattle.evaluation.specs.Eval.{priced-distance}
 use Rattle.plan.specs.Plan.{Slices}
 use Rattle.local_search.specs.Feasible.{load, fits}
-use Rattle.planner.specs.Table.{Work}
+use Rattle.entry.specs.Table.{Work}
 use Rattle.planner.specs.Calls.{Answer, refused, answered, Reply, public-route-eval}
 use Rattle.planner.specs.Run.{Call, minimise, eliminate, run}
 use Rattle.planner.specs.Opened.{opened}

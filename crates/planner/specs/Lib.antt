@@ -1,6 +1,4 @@
 -- The public interface. A file uses only files above it in this list.
--- the refusal table
-pub mod Table
 -- the public calls
 pub mod Calls
 -- lists of calls, and the claim about them

@@ -12,8 +12,8 @@ use Rattle.models.specs.declared.vehicle.Vehicle.{Vehicle}
 use Rattle.models.specs.Problem.{Problem, problem}
 use Rattle.plan.specs.Plan.{Slices}
 use Rattle.route_minimization.specs.Minimize.{Allowance}
-use Rattle.planner.specs.Table.{Work, refusal}
-use Rattle.planner.specs.Calls.{minimise-inputs}
+use Rattle.entry.specs.Table.{Work, refusal}
+use Rattle.entry.specs.Given.{minimise-inputs}
 use Rattle.planner.specs.Opened.{opened}
 
 abbrev num : ℕ → Float
@@ -36,7 +36,7 @@ sheet depot service ready flags times =
 -- what minimise is refused with: lengths, stops, tape, M, u16 and f64 work cells
 abbrev said : Problem → List ℕ → List ℕ → List ℕ → ℕ → ℕ → ℕ → Option ℕ
 said p lengths stops tape limit u16-cells f64-cells =
-    refusal (minimise-inputs p (record { lengths = lengths; stops = stops }) (record { limit = limit; clock = 5; tape = tape })
+    refusal (minimise-inputs p (record { lengths = lengths; stops = stops }) tape limit
     (record { u16-cells = u16-cells; f64-cells = f64-cells }))
 
 -- a problem without a fault, at the edge of row 2; a call without one, at the edges of rows 8 and 9

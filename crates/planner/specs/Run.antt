@@ -14,7 +14,8 @@ use Rattle.local_search.specs.Route.{cost}
 use Rattle.local_search.specs.Feasible.{Sound}
 use Rattle.local_search.specs.declared.rounds.Counts.{Counts}
 use Rattle.route_minimization.specs.Minimize.{Allowance}
-use Rattle.planner.specs.Table.{Work, Inputs, refusal}
+use Rattle.entry.specs.Table.{Work}
+use Rattle.entry.specs.Given.{entry}
 use Rattle.planner.specs.Calls.{Answer, refused, answered, Done, Reply, plan-in, public-minimise, public-eliminate}
 
 -- ---- calls
@@ -35,13 +36,6 @@ run p s [] = []
 run p s (c ∷ cs) =
     let r = call p s c in
     r ∷ run p (r .slices) cs
-
--- "the entry checks": what the problem and a plan alone are refused with
-abbrev pub plan-inputs : Problem → Slices → Inputs
-plan-inputs p s = record { problem = p; rest = none; plan = some s; route = none; tape = none; limit = none; work = none }
-
-abbrev pub entry : Problem → Slices → Option ℕ
-entry p s = refusal (plan-inputs p s)
 
 -- ---- what is counted
 

@@ -12,9 +12,9 @@ use Rattle.laws.specs.Searches.{and-first, and-second}
 use Rattle.models.specs.Problem.{Problem}
 use Rattle.models.specs.Valid.{sizes-pass, values-pass, windows-pass, depot-passes, valid}
 use Rattle.plan.specs.Plan.{Slices, total}
-use Rattle.planner.specs.Table.{Work, Inputs, bad-lengths, stops-pass, table, first-applying, refusal}
-use Rattle.planner.specs.Run.{entry}
-use Rattle.planner.proofs.StopsLaws.{both}
+use Rattle.entry.specs.Table.{Work, Inputs, bad-lengths, stops-pass, table, first-applying, refusal}
+use Rattle.entry.specs.Given.{entry}
+use Rattle.entry.proofs.StopsLaws.{both}
 
 -- the inputs of a call on a plan, whatever else it is given
 abbrev pub call-inputs : Problem → Slices → Option (List ℕ) → Option ℕ → Option Work → Inputs
@@ -26,18 +26,18 @@ row-first : (b : Bool) (n k : ℕ) (x y : Option ℕ) → (x ≡ some k → y �
 row-first true n k x y f e = e
 row-first false n k x y f e = f e
 
-row-passed : (b : Bool) (n : ℕ) (x : Option ℕ) → cond b (some n) x ≡ none → (b ≡ false) × (x ≡ none)
+pub row-passed : (b : Bool) (n : ℕ) (x : Option ℕ) → cond b (some n) x ≡ none → (b ≡ false) × (x ≡ none)
 row-passed true n x e = (cc, cc)
 row-passed false n x e = (refl, e)
 
 row-over : (b : Bool) (n : ℕ) (x y : Option ℕ) → b ≡ false → x ≡ y → cond b (some n) x ≡ y
 row-over b n x y e f = rw (e, f)
 
-passes : (b : Bool) → not b ≡ false → b ≡ true
+pub passes : (b : Bool) → not b ≡ false → b ≡ true
 passes true e = refl
 passes false e = cc
 
-neither : (a b : Bool) → (a || b) ≡ false → (a ≡ false) × (b ≡ false)
+pub neither : (a b : Bool) → (a || b) ≡ false → (a ≡ false) × (b ≡ false)
 neither true b e = (e, cc)
 neither false b e = (refl, e)
 

@@ -1,0 +1,76 @@
+// Rows 5 and 6: the lengths and the stops of a plan, and the stops of a route.
+ghost use mathlib.Core.Path.{_≡_};
+ghost use mathlib.Core.List.{[]};
+ghost use Prim.Native.Nat.{_≤_};
+ghost use lib.ListN.{length};
+ghost use lib.Dec.{eqb};
+ghost use Rattle.laws.specs.Searches.{any};
+ghost use Rattle.models.specs.Problem.{of-distances};
+ghost use Rattle.plan.specs.Plan.{Slices, total};
+ghost use Rattle.entry.specs.Table.{bad-lengths, stop-passes, stops-pass};
+use models::vehicle::Vehicle;
+
+// The sum of the lengths.
+fn total(lengths: &[u16]) -> usize
+    requires { ⌜ length (now lengths) ≤ 256 ⌝ }
+    ensures { λ r. ⌜ r ≡ total (now (lengths .entry)) ⌝ }
+{
+    let mut sum = 0;
+    let mut k = 0;
+    while k < lengths.len() {
+        sum = sum + lengths[k] as usize;
+        k += 1;
+    }
+    sum
+}
+
+// Whether there are over 256 lengths, or they do not sum to the number of stops.
+pub fn bad_lengths(lengths: &[u16], stops: &[u16]) -> bool
+    ensures { λ r. ⌜ r ≡ bad-lengths (record { lengths = now (lengths .entry); stops = now (stops .entry) }) ⌝ }
+{
+    if lengths.len() > 256 {
+        return true;
+    }
+    total(lengths) != stops.len()
+}
+
+// Whether x is one of the stops.
+fn contains(stops: &[u16], x: u16) -> bool
+    ensures { λ r. ⌜ r ≡ any (eqb x) (now (stops .entry)) ⌝ }
+{
+    let mut i = 0;
+    while i < stops.len() {
+        if x == stops[i] {
+            return true;
+        }
+        i += 1;
+    }
+    false
+}
+
+// Whether c is a place, not the depot, and none of the stops before it.
+fn stop_passes(n: usize, vehicle: Vehicle, before: &[u16], c: u16) -> bool
+    ensures { λ r. ⌜ r ≡ stop-passes (of-distances n [] vehicle) (now (before .entry)) c ⌝ }
+{
+    if (c as usize) < n {
+        if c as usize == vehicle.depot_id {
+            return false;
+        }
+        return !contains(before, c);
+    }
+    false
+}
+
+// Whether row 6 lets the stops pass. Of n places at most n stops pass, so it ends after n + 1 of them.
+pub fn stops_pass(n: usize, vehicle: Vehicle, stops: &[u16]) -> bool
+    ensures { λ r. ⌜ r ≡ stops-pass (of-distances n [] vehicle) (now (stops .entry)) ⌝ }
+{
+    let mut i = 0;
+    while i < stops.len() {
+        if !stop_passes(n, vehicle, &stops[..i], stops[i]) {
+            return false;
+        }
+        i += 1;
+    }
+    true
+}
