@@ -5,7 +5,6 @@ pub mod PoolLaws
 pub mod TurnLaws
 -- the loop that empties the pool
 pub mod LoopLaws
--- Laws for the proofs of the code.
 -- an attempt to empty a route
 pub mod AttemptLaws
 -- the rounds of attempts
