@@ -1,5 +1,5 @@
 -- What the functions inside ask for holds where the table refuses nothing. Assumes nothing.
-use Prim.Native.Nat.{ℕ, zero, suc, _≤_, _<_}
+use Prim.Native.Nat.{ℕ, _≤_, _<_}
 use mathlib.Core.Path.{_≡_, refl, sym, ap, _∙_}
 use mathlib.Core.Bool.{Bool, true, false, not, _||_, true≢false}
 use mathlib.Core.List.{List, [], _∷_}
@@ -12,7 +12,7 @@ use Rattle.laws.specs.Counts.{count}
 use Rattle.laws.specs.Searches.{and-first, every-at}
 use Rattle.models.specs.declared.vehicle.Rest.the-variants.{Break}
 use Rattle.models.specs.declared.vehicle.VehicleBreak.{VehicleBreak}
-use Rattle.models.specs.Problem.{Problem, Stops, Admitted, depot}
+use Rattle.models.specs.Problem.{Problem, Stops, Admitted}
 use Rattle.models.specs.Valid.{rest-passes, sizes-pass, values-pass, windows-pass, depot-passes, valid}
 use Rattle.models.proofs.ValidLaws.{valid-count, valid-fit, valid-demands, valid-depot}
 use Rattle.plan.specs.Plan.{Slices, total, split}
@@ -66,7 +66,7 @@ module _ (p : Problem) (v : valid p ≡ true) (route : List ℕ) where
         stops = record {
           few = omega (arith, few, valid-count p v);
           each = λ k h. ltb-true (getD route k 0) (p .roads .size)
-            (and-first (ltb (getD route k 0) (p .roads .size)) _ (every-at (λ i. stop-passes p (take i route) (getD route i 0)) (length route) k e h));
+              (and-first (ltb (getD route k 0) (p .roads .size)) _ (every-at (λ i. stop-passes p (take i route) (getD route i 0)) (length route) k e h));
         };
         few = omega (arith, few, valid-count p v);
         passing = e;
