@@ -1,5 +1,5 @@
 -- What the functions inside ask for holds where the table refuses nothing. Assumes nothing.
-use Prim.Native.Nat.{ℕ, zero, suc, _≤_, _<_}
+use Prim.Native.Nat.{ℕ, _≤_, _<_}
 use mathlib.Core.Path.{_≡_, refl, sym, ap, _∙_}
 use mathlib.Core.Bool.{Bool, true, false, not, _||_, true≢false}
 use mathlib.Core.List.{List, [], _∷_}
@@ -12,7 +12,7 @@ use Rattle.laws.specs.Counts.{count}
 use Rattle.laws.specs.Searches.{and-first, every-at}
 use Rattle.models.specs.declared.vehicle.Rest.the-variants.{Break}
 use Rattle.models.specs.declared.vehicle.VehicleBreak.{VehicleBreak}
-use Rattle.models.specs.Problem.{Problem, Stops, Admitted, depot}
+use Rattle.models.specs.Problem.{Problem, Stops, Admitted}
 use Rattle.models.specs.Valid.{rest-passes, sizes-pass, values-pass, windows-pass, depot-passes, valid}
 use Rattle.models.proofs.ValidLaws.{valid-count, valid-fit, valid-demands, valid-depot}
 use Rattle.plan.specs.Plan.{Slices, total, split}
@@ -66,7 +66,7 @@ module _ (p : Problem) (v : valid p ≡ true) (route : List ℕ) where
         stops = record {
           few = omega (arith, few, valid-count p v);
           each = λ k h. ltb-true (getD route k 0) (p .roads .size)
-            (and-first (ltb (getD route k 0) (p .roads .size)) _ (every-at (λ i. stop-passes p (take i route) (getD route i 0)) (length route) k e h));
+              (and-first (ltb (getD route k 0) (p .roads .size)) _ (every-at (λ i. stop-passes p (take i route) (getD route i 0)) (length route) k e h));
         };
         few = omega (arith, few, valid-count p v);
         passing = e;
@@ -77,16 +77,16 @@ module _ (p : Problem) (v : valid p ≡ true) (route : List ℕ) where
   rows-routed e = stops-routed (passes (stops-pass p route) (row-passed (not (stops-pass p route)) 6 _ e .0))
 
 -- a plan that minimise and eliminate work on
-pub record Entering (p : Problem) (s : Slices) : Type 0 where
+pub record Accepted (p : Problem) (s : Slices) : Type 0 where
   pub admitted : Admitted p
   pub routes : length (s .lengths) ≤ 256
   pub sum : total (s .lengths) ≡ length (s .stops)
   pub few : length (s .stops) ≤ 255
   pub planned : Planned (p .roads .size) (split (s .lengths) (s .stops))
 
-rows-entering : (p : Problem) (s : Slices) → valid p ≡ true → plan-rows p s ≡ none → Entering p s
+rows-accepted : (p : Problem) (s : Slices) → valid p ≡ true → plan-rows p s ≡ none → Accepted p s
 unfolding plan-rows bad-lengths
-rows-entering p s v e =
+rows-accepted p s v e =
     let a = row-passed (bad-lengths s) 5 _ e in
     let l = neither (ltb 256 (length (s .lengths))) (not (eqb (total (s .lengths)) (length (s .stops)))) (a .0) in
     let r = rows-routed p v (s .stops) (a .1) in
@@ -153,14 +153,14 @@ module _ (p : Problem) where
         (v .0, rows-routed p (v .0) r (g .1), v .1)
 
   module _ (s : Slices) (w : Work) where
-    pub eliminate-accepted : refusal (eliminate-inputs p s w) ≡ none → Entering p s × Enough w
+    pub eliminate-accepted : refusal (eliminate-inputs p s w) ≡ none → Accepted p s × Enough w
     eliminate-accepted e =
         let g = neither-group (problem-rows true p) (or-else (plan-rows p s) (work-rows w)) (sym (eliminate-refusal p s w) ∙ e) in
         let h = neither-group (plan-rows p s) (work-rows w) (g .1) in
-        (rows-entering p s (rows-valid p true (g .0) .0) (h .0), rows-enough w (h .1))
+        (rows-accepted p s (rows-valid p true (g .0) .0) (h .0), rows-enough w (h .1))
 
-    pub minimise-accepted : (tape : List ℕ) (limit : ℕ) → refusal (minimise-inputs p s tape limit w) ≡ none → Entering p s × Allowed tape limit w
+    pub minimise-accepted : (tape : List ℕ) (limit : ℕ) → refusal (minimise-inputs p s tape limit w) ≡ none → Accepted p s × Allowed tape limit w
     minimise-accepted tape limit e =
         let g = neither-group (problem-rows true p) (or-else (plan-rows p s) (minimise-rows tape limit w)) (sym (minimise-refusal p s w tape limit) ∙ e) in
         let h = neither-group (plan-rows p s) (minimise-rows tape limit w) (g .1) in
-        (rows-entering p s (rows-valid p true (g .0) .0) (h .0), rows-allowed tape limit w (h .1))
+        (rows-accepted p s (rows-valid p true (g .0) .0) (h .0), rows-allowed tape limit w (h .1))

@@ -1,17 +1,17 @@
 -- Row 6: a stop among others, and what the tests of a stop say. Assumes nothing.
 use Prim.Native.Nat.{ℕ, _+_, _-_, _≤_, _<_}
 use native.Mathlib.Omega.{arith}
-use mathlib.Core.Path.{_≡_, refl, sym, ap, _∙_}
-use mathlib.Core.Bool.{Bool, true, false, not, _&&_}
+use mathlib.Core.Path.{_≡_, refl}
+use mathlib.Core.Bool.{Bool, true, false, not}
 use mathlib.Core.List.{List, []}
-use lib.ListN.{length, getD, take, drop}
-use lib.Dec.{eqb, ltb}
+use lib.ListN.{length, getD, drop}
+use lib.Dec.{eqb}
 use borrow.Author.Needs.{needs}
 use borrow.Author.Tests.{eq-eqb, ne-eqb, lt-ltb, le-ltb}
 use Rattle.laws.specs.Searches.{any, any-skip, any-hit, any-end}
 use Rattle.models.specs.declared.vehicle.Vehicle.{Vehicle}
-use Rattle.models.specs.Problem.{Problem, depot, of-distances}
-use Rattle.entry.specs.Table.{stop-passes, stops-pass}
+use Rattle.models.specs.Problem.{of-distances}
+use Rattle.entry.specs.Table.{stop-passes}
 
 -- ---- c is none of the first i stops
 

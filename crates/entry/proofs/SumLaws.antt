@@ -2,16 +2,16 @@
 use Prim.Native.Nat.{ℕ, _+_, _-_, _*_, _≤_, _<_}
 use native.Mathlib.Omega.{arith}
 use mathlib.Core.Path.{_≡_, refl, sym, ap, _∙_}
-use mathlib.Core.Bool.{Bool, true, false, not, _||_}
+use mathlib.Core.Bool.{true, not}
 use mathlib.Core.List.{List}
-use lib.ListN.{length, getD, take}
+use lib.ListN.{length, getD}
 use lib.Seq.{take-all}
-use lib.Dec.{eqb, ltb}
+use lib.Dec.{eqb}
 use mir.Syntax.{w64}
 use mir.Val.{Fits}
 use borrow.Author.Tests.{lt-ltb, le-ltb}
 use Rattle.plan.specs.Plan.{Slices, total, offset}
-use Rattle.plan.specs.Slices.{offset-more, offset-all}
+use Rattle.plan.specs.Slices.{offset-more}
 use Rattle.entry.specs.Table.{bad-lengths}
 
 -- the first k lengths, of u16 each, sum to `sum`

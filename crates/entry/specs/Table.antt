@@ -12,7 +12,7 @@ use Rattle.models.specs.Problem.{Problem, depot}
 use Rattle.models.specs.Valid.{rest-passes, sizes-pass, values-pass, windows-pass, depot-passes}
 use Rattle.plan.specs.Plan.{Slices, total}
 
--- how many work cells a call is lent; what is in them no row asks
+-- how many work cells a call is lent; no row asks what is in them
 pub record Work : Type 0 where
   pub u16-cells : ℕ
   pub f64-cells : ℕ

@@ -7,7 +7,6 @@ use floats::is_sign_negative;
 use models::vehicle::Limit;
 use models::vehicle::Rest;
 use models::vehicle::Vehicle;
-use models::vehicle::VehicleBreak;
 
 // Whether x is finite, has its sign bit clear, which -0.0 has not, and is at most 1e12.
 pub fn is_amount(x: f64) -> bool

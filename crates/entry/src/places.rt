@@ -4,7 +4,7 @@ ghost use mathlib.Core.List.{[]};
 ghost use Prim.Native.Nat.{_<_};
 ghost use lib.ListN.{length};
 ghost use Rattle.laws.specs.Searches.{every};
-ghost use Rattle.models.specs.Customer.{customers, Sized};
+ghost use Rattle.models.specs.Customer.{customers};
 ghost use Rattle.models.specs.Valid.{window-passes, penalty-passes, demand-passes, place-passes, window-ordered};
 use crate::amounts::is_amount;
 

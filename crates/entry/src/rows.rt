@@ -126,7 +126,7 @@ pub fn plan_rows(n: usize, vehicle: Vehicle, lengths: &[u16], stops: &[u16]) -> 
     route_rows(n, vehicle, stops)
 }
 
-// Row 9, of the numbers of work cells.
+// Row 9, of `small` u16 and `wide` f64 work cells.
 pub fn work_rows(small: usize, wide: usize) -> u8
     ensures { λ r. ⌜ numbered r ≡ work-rows (record { u16-cells = small; f64-cells = wide }) ⌝ }
 {

@@ -61,7 +61,7 @@ fn stop_passes(n: usize, vehicle: Vehicle, before: &[u16], c: u16) -> bool
     false
 }
 
-// Whether row 6 lets the stops pass. Of n places at most n stops pass, so it ends after n + 1 of them.
+// Whether row 6 lets the stops pass. Of n places at most n stops pass, so the loop ends after n + 1 of them at the latest.
 pub fn stops_pass(n: usize, vehicle: Vehicle, stops: &[u16]) -> bool
     ensures { λ r. ⌜ r ≡ stops-pass (of-distances n [] vehicle) (now (stops .entry)) ⌝ }
 {

@@ -11,7 +11,6 @@ use Rattle.models.specs.declared.vehicle.Rest.the-variants.{None as NoRest}
 use Rattle.models.specs.declared.vehicle.Vehicle.{Vehicle}
 use Rattle.models.specs.Problem.{Problem, problem}
 use Rattle.plan.specs.Plan.{Slices}
-use Rattle.route_minimization.specs.Minimize.{Allowance}
 use Rattle.entry.specs.Table.{Work, refusal}
 use Rattle.entry.specs.Given.{minimise-inputs}
 use Rattle.planner.specs.Opened.{opened}
