@@ -1,6 +1,8 @@
 -- Route elimination. A file uses only files above it in this list.
 -- the attempt to move each stop of a route, and the search
 pub mod Eliminate
+-- the place for a stop by one pass over routes and positions
+pub mod Place
 -- what an attempt and the search keep
 pub mod Eliminated
 -- every definition, opened for theorems by computation
