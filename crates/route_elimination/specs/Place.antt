@@ -8,7 +8,7 @@ use mathlib.Core.Bool.{Bool, true, false, cond, not, _||_}
 use mathlib.Core.Option.{Option, none, some}
 use lib.ListN.{length}
 use lib.Ieee.{Float, le}
-use Rattle.floats.specs.Binary64.{_⊕_, is-finite, total-rank, total-less}
+use Rattle.floats.specs.Binary64.{_⊕_, 0f, is-finite, total-rank, total-less}
 use Rattle.laws.specs.Edits.{insert-at}
 use Rattle.laws.specs.Loops.{loop, loop-same, foldl}
 use Rattle.laws.specs.Sorts.{range}
@@ -17,9 +17,13 @@ use Rattle.models.specs.Problem.{Problem}
 use Rattle.plan.specs.Plan.{Plan, route}
 use Rattle.local_search.specs.declared.route.Insertion.{Insertion}
 use Rattle.local_search.specs.Feasible.{has-room, checked}
-use Rattle.route_elimination.specs.Eliminate.{soft, insertion-worth, positions, candidates-in, candidates, nowhere, by-cost, trial, first-passing}
+use Rattle.route_elimination.specs.Eliminate.{soft, worth, insertion-worth, positions, candidates-in, candidates, nowhere, by-cost, trial, first-passing}
 
 -- ---- the pass
+
+-- `current`: what the route is worth where a window is soft, and else 0, which is not read
+abbrev pub current : Problem → List ℕ → Float
+current p r = cond (soft p) (worth p r) 0f
 
 -- with a soft window a cost that is not finite makes no candidate
 abbrev pub counts : Problem → Float → Bool
