@@ -3,6 +3,8 @@
 pub mod Eliminate
 -- the place for a stop by one pass over routes and positions
 pub mod Place
+-- what the code asks of a stop, a route and a plan
+pub mod Asked
 -- what an attempt and the search keep
 pub mod Eliminated
 -- every definition, opened for theorems by computation

@@ -1,3 +1,4 @@
 // Route elimination: a route is emptied by inserting its stops into the others (local_search/route_elimination.rs).
 // The definitions and their laws are in specs/.
 pub mod worth;
+pub mod place;
