@@ -5,3 +5,5 @@ pub mod WorthLaws
 pub mod PlaceLaws
 -- the routes of a plan
 pub mod OverLaws
+-- the stops that are moved, the largest demand first
+pub mod LargestLaws

@@ -5,6 +5,8 @@ pub mod Eliminate
 pub mod Place
 -- what the code asks of a stop, a route and a plan
 pub mod Asked
+-- the stops that are moved, the largest demand first
+pub mod Largest
 -- what an attempt and the search keep
 pub mod Eliminated
 -- every definition, opened for theorems by computation

@@ -2,3 +2,4 @@
 // The definitions and their laws are in specs/.
 pub mod worth;
 pub mod place;
+pub mod largest;
