@@ -7,3 +7,5 @@ pub mod PlaceLaws
 pub mod OverLaws
 -- the stops that are moved, the largest demand first
 pub mod LargestLaws
+-- the stops moved one after the other
+pub mod MoveLaws

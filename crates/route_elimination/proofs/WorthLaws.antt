@@ -69,7 +69,7 @@ module _ (t₀ t₁ t₂ route : List ℕ) (pos c : ℕ) where
       rw (f, copied) (take-at (insert-at pos c route) (drop (length route + 1) t₁) (length route + 1) (length-insert-at pos c route h))
 
 module _ (n : ℕ) (route : List ℕ) (pos c : ℕ) (s : Stops n route) (h : pos ≤ length route) (k : c < n) (few : length route < 256) where
-  trial-stops : Stops n (insert-at pos c route)
+  pub trial-stops : Stops n (insert-at pos c route)
   trial-stops =
       record {
         few = omega (arith, length-insert-at pos c route h);

@@ -7,6 +7,8 @@ pub mod Place
 pub mod Asked
 -- the stops that are moved, the largest demand first
 pub mod Largest
+-- the stops moved one after the other
+pub mod Moves
 -- what an attempt and the search keep
 pub mod Eliminated
 -- every definition, opened for theorems by computation

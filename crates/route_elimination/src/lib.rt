@@ -3,3 +3,4 @@
 pub mod worth;
 pub mod place;
 pub mod largest;
+pub mod moves;
