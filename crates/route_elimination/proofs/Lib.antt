@@ -9,3 +9,5 @@ pub mod OverLaws
 pub mod LargestLaws
 -- the stops moved one after the other
 pub mod MoveLaws
+-- an attempt
+pub mod AttemptLaws

@@ -9,6 +9,8 @@ pub mod Asked
 pub mod Largest
 -- the stops moved one after the other
 pub mod Moves
+-- what an attempt asks and leaves
+pub mod Attempts
 -- what an attempt and the search keep
 pub mod Eliminated
 -- every definition, opened for theorems by computation

@@ -4,3 +4,4 @@ pub mod worth;
 pub mod place;
 pub mod largest;
 pub mod moves;
+pub mod attempt;
