@@ -2,7 +2,7 @@
 use Prim.Native.Nat.{ℕ, _+_, _-_, _≤_, _<_}
 use native.Mathlib.Omega.{arith}
 use mathlib.Core.Path.{_≡_, refl, sym, ap, ap₂, subst, _∙_}
-use mathlib.Core.Bool.{Bool, true, false, false≢true}
+use mathlib.Core.Bool.{Bool, true, false, true≢false, false≢true}
 use mathlib.Core.List.{List, [], _∷_, _++_}
 use mathlib.Core.Option.{Option, none, some}
 use lib.ListN.{length, getD, take, drop, length-drop, length-append}
@@ -10,19 +10,19 @@ use lib.Seq.{paste, take-paste, take-at, drop-at, length-take-le}
 use lib.IntN.{ℤ}
 use lib.Ieee.{Float, lt}
 use borrow.Author.Needs.{needs}
-use Rattle.floats.specs.Binary64.{_⊕_, _⊖_}
+use Rattle.floats.specs.Binary64.{_⊕_, _⊖_, is-finite}
 use Rattle.laws.specs.All.{All, all-get}
 use Rattle.laws.specs.Edits.{erase, length-erase, all-erase}
 use Rattle.models.specs.declared.vehicle.Vehicle.{Vehicle}
 use Rattle.models.specs.Vehicle.{fixed-cost-in-distance}
 use Rattle.models.specs.Problem.{Problem, problem, Stops}
-use Rattle.plan.specs.Plan.{Plan, Holds, Lent, split, route, total, offset}
+use Rattle.plan.specs.Plan.{Plan, Holds, Lent, split, route, total, offset, saved}
 use Rattle.plan.specs.Slices.{flat-split, route-split, route-within, length-split, length-route, total-erase}
 use Rattle.local_search.specs.Options.{bind, then-some}
 use Rattle.local_search.specs.Route.{gain-floor}
 use Rattle.local_search.specs.Planned.{planned-stops}
 use Rattle.local_search.proofs.VisitLaws.{Visiting, part-is, part-end, part-end-fits, part-length-fits, part-stops}
-use Rattle.route_elimination.specs.Eliminate.{worth, Moved, moving, move-all, if-gained}
+use Rattle.route_elimination.specs.Eliminate.{worth, Moved, moving, move-all, if-gained, without-route}
 use Rattle.route_elimination.specs.declared.moves.Sum.{Sum}
 use Rattle.route_elimination.specs.declared.moves.Sum.the-variants.{Nothing, At}
 use Rattle.route_elimination.specs.Largest.{in-order, moving-is}
@@ -186,3 +186,41 @@ module _ (p : Problem) (s needed : Bool) (ls st : List ℕ) (r : ℕ) (g : Attem
 
 pub not-accepted : {A : Type 0} → false ≡ true → A
 not-accepted e = absurd (false≢true e)
+
+-- ---- the answer: what is saved is not finite; the attempt is accepted; it is refused
+
+module _ (p : Problem) (routes : Plan) (r : ℕ) (x : Float) (ex : x ≡ worth p (route r routes) ⊕ fixed-cost-in-distance (p .vehicle)) (v : Bool) (ev : v ≡ is-finite x) where
+  pub without-endless : v ≡ false → (y : Plan) → then-some false y ≡ without-route p routes r
+  unfolding without-route then-some
+  without-endless f y = rw (← ex, ← ev, f)
+
+  module _ (h : v ≡ true) (b : Bool) (y : Plan) (e : then-some b y ≡ emptied p x routes r) where
+    tried : emptied p x routes r ≡ without-route p routes r
+    unfolding without-route
+    tried = rw (← ex, ← ev, h)
+
+    pub without-gained : b ≡ true → then-some true y ≡ without-route p routes r
+    without-gained f = ap (λ (t : Bool). then-some t y) (sym f) ∙ e ∙ tried
+
+    pub without-refused : b ≡ false → (z : Plan) → then-some false z ≡ without-route p routes r
+    without-refused f z = same ∙ ap (λ (t : Bool). then-some t y) (sym f) ∙ e ∙ tried
+      where
+        same : then-some false z ≡ then-some false y
+        same = unfold then-some in refl
+
+-- ---- what is left of the slices
+
+pub left-accepted : (b : Bool) (ls st ls₁ st₁ : List ℕ) → (b ≡ true → Accepted ls ls₁) → b ≡ true → Left true ls st ls₁ st₁
+left-accepted b ls st ls₁ st₁ a e = record { accepted = λ _. a e; lengths-back = λ f. absurd (true≢false f); stops-back = λ f. absurd (true≢false f) }
+
+pub left-same : (ls st : List ℕ) → Left false ls st ls st
+left-same ls st = record { accepted = λ f. absurd (false≢true f); lengths-back = λ _. refl; stops-back = λ _. refl }
+
+-- what was kept in the work cells is put back
+module _ (ls st work kept ls₁ st₁ ls₂ st₂ : List ℕ) (e : kept ≡ saved ls st work) (k : length ls₁ ≡ length ls) (l : length st₁ ≡ length st) where
+  pub left-restored : ls₂ ≡ take (length ls₁) kept → st₂ ≡ take (length st₁) (drop (length ls₁) kept) → Left false ls st ls₂ st₂
+  left-restored a b =
+      let rest = drop (length ls + length st) work in
+      let first : ls₂ ≡ ls = rw (k, e) at a ∙ take-at ls (st ++ rest) (length ls) refl in
+      let second : st₂ ≡ st = rw (k, l, e) at b ∙ ap (λ (x : List ℕ). take (length st) x) (drop-at ls (st ++ rest) (length ls) refl) ∙ take-at st rest (length st) refl in
+      record { accepted = λ f. absurd (false≢true f); lengths-back = λ _. first; stops-back = λ _. second }

@@ -13,10 +13,10 @@ ghost use Rattle.route_elimination.specs.Eliminate.{worth, move-all, wit
 ghost use Rattle.route_elimination.specs.Largest.{in-order};
 ghost use Rattle.route_elimination.specs.Moves.{held-by, Waiting, Kept};
 ghost use Rattle.route_elimination.specs.Attempts.{Attempted, emptied, fewer, Accepted, Left};
-use cells::copy_part;
 use crate::moves::Sum;
 use crate::moves::move_all;
 use crate::worth::worth;
+use cells::copy_part;
 use floats::is_finite;
 use local_search::route::gain_floor;
 use models::vehicle::Vehicle;

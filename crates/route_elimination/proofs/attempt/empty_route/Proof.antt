@@ -1,73 +1,54 @@
+-- `attempt::empty_route` meets its contract.
 use native.Mathlib.Omega.{arith}
-use Rattle.route_elimination.proofs.AttemptLaws.{attempt-count, erased-waiting, erased-some, empty-stuck, empty-gained, empty-accepted, not-accepted}
 use borrow.Author.Needs.{needs}
+use Rattle.route_elimination.proofs.AttemptLaws.{attempt-count, erased-waiting, erased-some, empty-stuck, empty-gained, empty-accepted, not-accepted}
 use Rattle.route_elimination.proofs.attempt.empty_route.Statement.{statement}
 use Rattle.route_elimination.proofs.attempt.empty_route.Tie as tie
-use Rattle.route_elimination.proofs.attempt.empty_route.Reads as reads
-use Rattle.route_elimination.proofs.attempt.empty_route.Lts as lts
-use Rattle.local_search.proofs.route.gain_floor.Reads as gain-floor-reads
-use Rattle.plan.proofs.erase_route.Reads as erase-route-reads
-use Rattle.route_elimination.proofs.attempt.keep_route.Reads as keep-route-reads
-use Rattle.route_elimination.proofs.attempt.move_into.Reads as move-into-reads
 
--- src/attempt.rt:151:17
 mul-count : tie.Need-mul-count
 mul-count c = search needs
 
--- src/attempt.rt:151:17
 slice-read-count : tie.Need-slice-read-count
 slice-read-count c = search needs
 
--- src/attempt.rt:151:17
 cast-count : tie.Need-cast-count
 cast-count c = omega (arith, c .slice-known3 .given (c .before .before .before .before .before .before .before .before .before .before .args .r))
 
--- src/attempt.rt:152:16
 slice-aggregate-keep-route : tie.Need-slice-aggregate-keep-route
 slice-aggregate-keep-route c = search needs
 
--- src/attempt.rt:152:5
 keep-route-requires : tie.Need-keep-route-requires
 keep-route-requires c κs =
     let p = c .before .before .before .before .before .before .before .before .before .before .before .before .before .pre in
     (p .lent, p .there, attempt-count _ _ _ _ _ _ p)
 
--- src/attempt.rt:153:5
 erase-route-requires : tie.Need-erase-route-requires
 erase-route-requires c κs = search needs
 
--- src/attempt.rt:157:9
 slice-aggregate-move-into : tie.Need-slice-aggregate-move-into
 slice-aggregate-move-into c = search needs
 
--- src/attempt.rt:154:9
 move-into-requires : tie.Need-move-into-requires
 move-into-requires c κs =
     let p = c .before .before .before .before .before .before .before .before .before .before .before .before .before .before .before .before .before .before .before .before .before .before .before .before .before .pre in
     let k = c .before .before .before .before .before .before .before .before .before .before .before .keep-route in
-    let e = c .before .before .before .before .before .before .before .erase-route in
-    (
+    let e = c .before .before .before .before .before .before .before .erase-route in (
       erased-waiting _ _ _ _ _ _ p (k .last .0) (k .ensures) (e .last .0) (e .last .1 .0) (e .ensures .0) (e .ensures .1) (omega (arith, attempt-count _ _ _ _ _ _ p, k .kept .0)) (e .kept .1 .0),
       erased-some _ _ _ _ _ _ p (k .last .0) (k .ensures) (e .last .0) (e .last .1 .0) (e .ensures .0) (e .ensures .1),
     )
 
--- src/attempt.rt:173:17
 enum-known-sum : tie.Need-enum-known-sum
 enum-known-sum c = search needs
 
--- src/attempt.rt:174:9
 enum-told : tie.Need-enum-told
 enum-told c = search needs
 
--- src/attempt.rt:174:9
 same-length : tie.Need-same-length
 same-length c = search needs
 
--- src/attempt.rt:174:9
 same-length-2 : tie.Need-same-length-2
 same-length-2 c = search needs
 
--- src/attempt.rt:174:9
 returns : tie.Need-returns
 returns c =
     let p = c .before .before .before .before .before .before .before .before .before .before .before .before .before .before .before .before .before .before .before .before .before .before .before .before .before .before .before .before .before .before .before .before .before .pre in
@@ -76,27 +57,22 @@ returns c =
     let m = c .before .before .before .before .before .before .before .move-into in
     (empty-stuck _ _ _ _ _ _ p (k .last .0) (k .ensures) (e .last .0) (e .last .1 .0) (e .ensures .0) (e .ensures .1) _ (m .result) (m .last .0) (m .last .1 .0) (m .ensures .0) (c .enum-told .given .1), not-accepted)
 
--- src/attempt.rt:176:21
 gain-floor-requires : tie.Need-gain-floor-requires
 gain-floor-requires c κs = search needs
 
--- src/attempt.rt:127:1
 same-length-3 : tie.Need-same-length-3
 same-length-3 c = search needs
 
--- src/attempt.rt:127:1
 same-length-4 : tie.Need-same-length-4
 same-length-4 c = search needs
 
--- src/attempt.rt:127:1
 returns-2 : tie.Need-returns-2
 returns-2 c =
     let p = c .before .before .before .before .before .before .before .before .before .before .before .before .before .before .before .before .before .before .before .before .before .before .before .before .before .before .before .before .before .before .before .before .before .before .before .pre in
     let k = c .before .before .before .before .before .before .before .before .before .before .before .before .before .before .before .before .before .before .before .before .before .keep-route in
     let e = c .before .before .before .before .before .before .before .before .before .before .before .before .before .before .before .before .before .erase-route in
     let m = c .before .before .before .before .before .before .before .before .before .move-into in
-    let q = c .before .before .sum .given .1 in
-    (
+    let q = c .before .before .sum .given .1 in (
       empty-gained _ _ _ _ _ _ p (k .last .0) (k .ensures) (e .last .0) (e .last .1 .0) (e .ensures .0) (e .ensures .1) _ (m .result) (m .last .0) (m .last .1 .0) (m .ensures .0) _ q _ (c .gain-floor .ensures),
       λ _. empty-accepted _ _ _ _ _ _ p (k .last .0) (k .ensures) (e .last .0) (e .last .1 .0) (e .ensures .0) (e .ensures .1) _ (m .result) (m .last .0) (m .last .1 .0) (m .ensures .0) _ q (m .ensures .1 .0) (m .ensures .1 .1),
     )

@@ -1,75 +1,58 @@
-use native.Mathlib.Omega.{arith}
+-- `attempt::saved_by` meets its contract.
+use borrow.Author.Needs.{needs}
 use Rattle.local_search.proofs.VisitLaws.{part-end, part-end-fits, part-length-fits, part-stops}
 use Rattle.route_elimination.proofs.AttemptLaws.{attempt-visit, saved-is}
-use borrow.Author.Needs.{needs}
 use Rattle.route_elimination.proofs.attempt.saved_by.Statement.{statement}
 use Rattle.route_elimination.proofs.attempt.saved_by.Tie as tie
-use Rattle.route_elimination.proofs.attempt.saved_by.Reads as reads
-use Rattle.route_elimination.proofs.attempt.saved_by.Lts as lts
-use Rattle.models.proofs.vehicle.Vehicle.fixed_cost_in_distance.Reads as fixed-cost-in-distance-reads
-use Rattle.plan.proofs.offset.Reads as offset-reads
-use Rattle.route_elimination.proofs.worth.worth.Reads as worth-reads
 
--- src/attempt.rt:50:9
 offset-requires : tie.Need-offset-requires
 offset-requires c κs = search needs
 
--- src/attempt.rt:51:20
 mul-end : tie.Need-mul-end
 mul-end c = search needs
 
--- src/attempt.rt:51:20
 shared-slice-read-end : tie.Need-shared-slice-read-end
 shared-slice-read-end c = search needs
 
--- src/attempt.rt:51:20
 cast-end : tie.Need-cast-end
 cast-end c =
     let p = c .before .before .before .before .before .before .before .before .before .before .before .pre in
     let v = attempt-visit _ _ _ _ _ _ p _ (c .before .offset .ensures) in
     part-length-fits _ _ _ _ _ v (p .there)
 
--- src/attempt.rt:51:15
 add-end : tie.Need-add-end
 add-end c =
     let p = c .before .before .before .before .before .before .before .before .before .before .before .pre in
     let v = attempt-visit _ _ _ _ _ _ p _ (c .before .offset .ensures) in
     part-end-fits _ _ _ _ _ v (p .there)
 
--- src/attempt.rt:53:9
 mul-worth : tie.Need-mul-worth
 mul-worth c =
     let p = c .before .before .before .before .before .before .before .before .before .before .before .pre in
     let v = attempt-visit _ _ _ _ _ _ p _ (c .before .offset .ensures) in
     search (needs, part-end _ _ _ _ _ v (p .there))
 
--- src/attempt.rt:53:9
 sub-worth : tie.Need-sub-worth
 sub-worth c = search needs
 
--- src/attempt.rt:53:9
 part-worth-start : tie.Need-part-worth-start
 part-worth-start c = search needs
 
--- src/attempt.rt:53:9
 part-worth-end : tie.Need-part-worth-end
 part-worth-end c =
     let p = c .before .before .before .before .before .before .before .before .before .before .before .pre in
     let v = attempt-visit _ _ _ _ _ _ p _ (c .before .offset .ensures) in
     part-end _ _ _ _ _ v (p .there)
 
--- src/attempt.rt:52:9
 worth-requires : tie.Need-worth-requires
 worth-requires c κs =
     let p = c .before .before .before .before .before .before .before .before .before .before .before .before .pre in
     let v = attempt-visit _ _ _ _ _ _ p _ (c .before .before .offset .ensures) in
     (p .admitted .fit, (p .admitted .depot-in, part-stops _ _ _ _ _ v (p .there), p .soft-told))
 
--- src/attempt.rt:65:11
 fixed-cost-in-distance-requires : tie.Need-fixed-cost-in-distance-requires
 fixed-cost-in-distance-requires c κs = search needs
 
--- src/attempt.rt:29:1
 returns : tie.Need-returns
 returns c = saved-is _ _ _ _ _ _ _ _ _ _ _ _ _ _ _ (c .before .before .before .before .before .before .before .before .before .before .before .before .before .before .pre) _ (c .before .before .before .before .offset .ensures) _ _ (c .before .worth .ensures) (c .fixed-cost-in-distance .ensures)
 
