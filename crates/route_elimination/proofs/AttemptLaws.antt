@@ -187,26 +187,27 @@ module _ (p : Problem) (s needed : Bool) (ls st : List ℕ) (r : ℕ) (g : Attem
 pub not-accepted : {A : Type 0} → false ≡ true → A
 not-accepted e = absurd (false≢true e)
 
--- ---- the answer: what is saved is not finite; the attempt is accepted; it is refused
+-- ---- the answer: what is saved is not finite; or the attempt is made
 
 module _ (p : Problem) (routes : Plan) (r : ℕ) (x : Float) (ex : x ≡ worth p (route r routes) ⊕ fixed-cost-in-distance (p .vehicle)) (v : Bool) (ev : v ≡ is-finite x) where
   pub without-endless : v ≡ false → (y : Plan) → then-some false y ≡ without-route p routes r
   unfolding without-route then-some
   without-endless f y = rw (← ex, ← ev, f)
 
-  module _ (h : v ≡ true) (b : Bool) (y : Plan) (e : then-some b y ≡ emptied p x routes r) where
-    tried : emptied p x routes r ≡ without-route p routes r
-    unfolding without-route
-    tried = rw (← ex, ← ev, h)
+  pub without-tried : v ≡ true → (b : Bool) (y : Plan) → then-some b y ≡ emptied p x routes r → then-some b y ≡ without-route p routes r
+  unfolding without-route
+  without-tried h b y e = rw (← ex, ← ev, h) e
 
-    pub without-gained : b ≡ true → then-some true y ≡ without-route p routes r
-    without-gained f = ap (λ (t : Bool). then-some t y) (sym f) ∙ e ∙ tried
+-- the plan of a refused attempt is any
+module _ (b : Bool) (y : Plan) (o : Option Plan) (e : then-some b y ≡ o) where
+  pub tried-gained : b ≡ true → then-some true y ≡ o
+  tried-gained f = ap (λ (t : Bool). then-some t y) (sym f) ∙ e
 
-    pub without-refused : b ≡ false → (z : Plan) → then-some false z ≡ without-route p routes r
-    without-refused f z = same ∙ ap (λ (t : Bool). then-some t y) (sym f) ∙ e ∙ tried
-      where
-        same : then-some false z ≡ then-some false y
-        same = unfold then-some in refl
+  pub tried-refused : b ≡ false → (z : Plan) → then-some false z ≡ o
+  tried-refused f z = same ∙ ap (λ (t : Bool). then-some t y) (sym f) ∙ e
+    where
+      same : then-some false z ≡ then-some false y
+      same = unfold then-some in refl
 
 -- ---- what is left of the slices
 

@@ -2,7 +2,7 @@
 use Prim.Native.Nat.{ℕ, suc, _+_, _≤_, _<_}
 use native.Mathlib.Omega.{arith}
 use mathlib.Core.Path.{_≡_, refl, _∙_}
-use mathlib.Core.Bool.{Bool, true, false, not, _||_}
+use mathlib.Core.Bool.{Bool, true, false, cond, not, _&&_, _||_}
 use mathlib.Core.List.{List, []}
 use mathlib.Core.Option.{Option, some}
 use lib.ListN.{length}
@@ -47,32 +47,33 @@ module _ (p : Problem) (c : ℕ) (added saved : Float) (r : List ℕ) (pos : ℕ
 
 pub ruleset test-laws = (counts-soft, counts-hard, first-than, settled-dear, settled-checked)
 
--- ---- one position: no candidate; not before the best so far; it does not end the search; it does
+-- ---- one position: no candidate that leads; it does not end the search; it does
 
 module _ (p : Problem) (m : Move) (k : ℕ) (r : List ℕ) (pos : ℕ) (best : Option Insertion) (x : Float) (g : Looked p m r)
-    (ex : x ≡ insertion-worth p r pos (m .c)) (u : Bool) (eu : u ≡ (not (m .soft) || is-finite x)) where
-  counted : u ≡ counts p x
-  counted = rw (← (g .soft-told)) eu
+    (ex : x ≡ insertion-worth p r pos (m .c)) (v : Bool) (ev : v ≡ ((not (m .soft) || is-finite x) && comes-first x best)) where
+  abbrev taken : Option Insertion
+  taken = cond (settles p (m .c) (m .added) (m .saved) r pos x) (some (record { cost = x; route = k; pos = pos })) best
 
-  pub look-uncounted : u ≡ false → best ≡ look-at p (m .c) (m .added) (m .saved) k r pos best
+  both : cond v taken best ≡ look-at p (m .c) (m .added) (m .saved) k r pos best
   unfolding look-at
-  look-uncounted f = rw (← ex, ← counted, f)
+  both = rw (← ex, ev, g .soft-told) (go (counts p x) (comes-first x best))
+    where
+      go : (a b : Bool) → cond (a && b) taken best ≡ cond a (cond b taken best) best
+      go true b = refl
+      go false b = refl
 
-  module _ (h : u ≡ true) (v : Bool) (ev : v ≡ comes-first x best) where
-    pub look-dear : v ≡ false → best ≡ look-at p (m .c) (m .added) (m .saved) k r pos best
-    unfolding look-at
-    look-dear f = rw (← ex, ← counted, h, ← ev, f)
+  pub look-passed : v ≡ false → best ≡ look-at p (m .c) (m .added) (m .saved) k r pos best
+  look-passed f = rw f at both
 
-    module _ (e : v ≡ true) (w : Bool) (ew : w ≡ settles p (m .c) (m .added) (m .saved) r pos x) where
-      pub look-refused : w ≡ false → best ≡ look-at p (m .c) (m .added) (m .saved) k r pos best
-      unfolding look-at
-      look-refused f = rw (← ex, ← counted, h, ← ev, e, ← ew, f)
+  module _ (e : v ≡ true) (w : Bool) (ew : w ≡ settles p (m .c) (m .added) (m .saved) r pos x) where
+    led : taken ≡ look-at p (m .c) (m .added) (m .saved) k r pos best
+    led = rw e at both
 
-      pub look-taken : w ≡ true → some (record { cost = x; route = k; pos = pos }) ≡ look-at p (m .c) (m .added) (m .saved) k r pos best
-      unfolding look-at
-      look-taken f = rw (← ex, ← counted, h, ← ev, e, ← ew, f)
+    pub look-refused : w ≡ false → best ≡ look-at p (m .c) (m .added) (m .saved) k r pos best
+    look-refused f = rw (← ew, f) at led
 
-pub ruleset look-laws = (look-uncounted, look-dear, look-refused, look-taken)
+    pub look-taken : w ≡ true → some (record { cost = x; route = k; pos = pos }) ≡ look-at p (m .c) (m .added) (m .saved) k r pos best
+    look-taken f = rw (← ew, f) at led
 
 -- ---- the loop: what the positions before pos leave of the best so far
 

@@ -176,6 +176,58 @@ fn empty_route(
     added < saved - gain_floor(distances)
 }
 
+// Route r goes and its stops find other places, where that gains: else both slices are put back from the work cells.
+fn try_without(
+    lengths: &mut [u16],
+    stops: &mut [u16],
+    work: &mut [u16],
+    r: usize,
+    saved: f64,
+    soft: bool,
+    needed: bool,
+    vehicle: Vehicle,
+    demand: &[i32],
+    n: usize,
+    distances: &[f64],
+    times: &[f64],
+    service: &[f64],
+    ready: &[f64],
+    due: &[f64],
+    penalty: &[f64],
+    flags: &[u8],
+) -> bool
+    requires { ⌜ Attempted (problem n (now demand) (now service) (now ready) (now due) (now penalty) (now flags) (now distances) (now times) vehicle) soft needed (now lengths) (now stops) r
+        × (length (now lengths) + length (now stops) ≤ length (now work)) ⌝ }
+    ensures plan { λ b. ⌜ then-some b (split (fewer (now (lengths .entry)) (now (lengths .exit))) (now (stops .exit))) ≡ emptied (problem n (now (demand .entry)) (now (service .entry)) (now (ready .entry)) (now (due .entry)) (now (penalty .entry)) (now (flags .entry))
+        (now (distances .entry)) (now (times .entry)) vehicle) saved (split (now (lengths .entry)) (now (stops .entry))) r ⌝ }
+    ensures slices { λ b. ⌜ Left b (now (lengths .entry)) (now (stops .entry)) (now (lengths .exit)) (now (stops .exit)) ⌝ }
+{
+    save(work, lengths, stops);
+    let gained = empty_route(
+        lengths,
+        stops,
+        r,
+        saved,
+        soft,
+        needed,
+        vehicle,
+        demand,
+        n,
+        distances,
+        times,
+        service,
+        ready,
+        due,
+        penalty,
+        flags,
+    );
+    if gained {
+        return true;
+    }
+    restore(lengths, stops, work);
+    false
+}
+
 // The attempt: where the other routes take the stops of route r for less than it costs they are the plan, in one length less, and else both
 // slices are as before. The work cells have room for both slices.
 pub fn without_route(
@@ -220,10 +272,10 @@ pub fn without_route(
         flags,
     );
     if is_finite(saved) {
-        save(work, lengths, stops);
-        let gained = empty_route(
+        return try_without(
             lengths,
             stops,
+            work,
             r,
             saved,
             soft,
@@ -239,11 +291,6 @@ pub fn without_route(
             penalty,
             flags,
         );
-        if gained {
-            return true;
-        }
-        restore(lengths, stops, work);
-        return false;
     }
     false
 }

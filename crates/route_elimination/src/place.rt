@@ -1,6 +1,6 @@
 // The place for a stop that is to be moved: one pass over the routes and their positions with the best so far.
 ghost use mathlib.Core.Path.{_≡_};
-ghost use mathlib.Core.Bool.{not, _||_};
+ghost use mathlib.Core.Bool.{not, _&&_, _||_};
 ghost use mathlib.Core.List.{[]};
 ghost use Prim.Native.Nat.{suc, _-_, _<_, _≤_};
 ghost use lib.ListN.{length, take, drop};
@@ -50,6 +50,16 @@ fn comes_first(cost: f64, best: Best) -> bool
         return true;
     };
     total_less(cost, found.cost)
+}
+
+// Whether a position makes a candidate that comes before the best so far.
+fn leads(cost: f64, soft: bool, best: Best) -> bool
+    ensures { λ r. ⌜ r ≡ ((not soft || is-finite cost) && comes-first cost (chosen best)) ⌝ }
+{
+    if counts(cost, soft) {
+        return comes_first(cost, best);
+    }
+    false
 }
 
 // Whether a candidate ends the search: it would cost as much as is saved, or the route with the stop put in passes the check.
@@ -131,30 +141,27 @@ fn look_at(
         penalty,
         flags,
     );
-    if counts(cost, stop.soft) {
-        if comes_first(cost, best) {
-            if settles(
-                route,
-                pos,
-                cost,
-                stop,
-                vehicle,
-                n,
-                distances,
-                times,
-                service,
-                ready,
-                due,
-                penalty,
-                flags,
-            ) {
-                return Best::At(Insertion {
-                    cost: cost,
-                    route: k,
-                    pos: pos,
-                });
-            }
-            return best;
+    if leads(cost, stop.soft, best) {
+        if settles(
+            route,
+            pos,
+            cost,
+            stop,
+            vehicle,
+            n,
+            distances,
+            times,
+            service,
+            ready,
+            due,
+            penalty,
+            flags,
+        ) {
+            return Best::At(Insertion {
+                cost: cost,
+                route: k,
+                pos: pos,
+            });
         }
         return best;
     }

@@ -38,7 +38,7 @@ pub fn worth(
     ensures { λ r. ⌜ r ≡ worth (problem n [] (now (service .entry)) (now (ready .entry)) (now (due .entry)) (now (penalty .entry)) (now (flags .entry))
         (now (distances .entry)) (now (times .entry)) vehicle) (now (route .entry)) ⌝ }
 {
-    if soft {
+    if soft { // the lateness is weighed
         return effective_cost(
             route,
             vehicle.depot_id,
