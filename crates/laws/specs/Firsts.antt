@@ -1,6 +1,6 @@
 -- The first in sorted order that passes a test is the best so far after one pass over the list as it stands: no list is sorted.
 -- Folds over lists that are made of others are loops. Assumes nothing.
-use Prim.Native.Nat.{ℕ, zero, suc, _+_, _≤_, _<_}
+use Prim.Native.Nat.{ℕ, zero, suc, _+_, _<_}
 use mathlib.Core.Path.{_≡_, refl, ap, sym, _∙_}
 use mathlib.Core.Bool.{Bool, true, false, cond, true≢false}
 use mathlib.Core.List.{List, [], _∷_, _++_, map, flatMap}
@@ -11,7 +11,6 @@ use lib.ListN.{length, getD, take, drop}
 use lib.Seq.{split-at, getD-take, length-take-le}
 use lib.IntN.{ℤ, pos, negsuc}
 use lib.Signed.{ltZ}
-use lib.Dec.{ltb}
 use borrow.Author.Tests.{lt-ltb, le-ltb, ltb-true, ltb-false}
 use Rattle.laws.specs.All.{All, all-nil, all-cons, all-of, all-drop}
 use Rattle.laws.specs.Edits.{erase, length-erase}

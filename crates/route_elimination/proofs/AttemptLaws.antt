@@ -4,7 +4,7 @@ use native.Mathlib.Omega.{arith}
 use mathlib.Core.Path.{_≡_, refl, sym, ap, ap₂, subst, _∙_}
 use mathlib.Core.Bool.{Bool, true, false, true≢false, false≢true}
 use mathlib.Core.List.{List, [], _∷_, _++_}
-use mathlib.Core.Option.{Option, none, some}
+use mathlib.Core.Option.{Option}
 use lib.ListN.{length, getD, take, drop, length-drop, length-append}
 use lib.Seq.{paste, take-paste, take-at, drop-at, length-take-le}
 use lib.IntN.{ℤ}
@@ -21,7 +21,7 @@ use Rattle.plan.specs.Slices.{flat-split, route-split, route-within, length-spl
 use Rattle.local_search.specs.Options.{bind, then-some}
 use Rattle.local_search.specs.Route.{gain-floor}
 use Rattle.local_search.specs.Planned.{planned-stops}
-use Rattle.local_search.proofs.VisitLaws.{Visiting, part-is, part-end, part-end-fits, part-length-fits, part-stops}
+use Rattle.local_search.proofs.VisitLaws.{Visiting, part-is}
 use Rattle.route_elimination.specs.Eliminate.{worth, Moved, moving, move-all, if-gained, without-route}
 use Rattle.route_elimination.specs.declared.moves.Sum.{Sum}
 use Rattle.route_elimination.specs.declared.moves.Sum.the-variants.{Nothing, At}

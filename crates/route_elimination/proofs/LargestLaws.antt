@@ -8,26 +8,12 @@ use mathlib.Core.List.{List, _++_}
 use lib.ListN.{length, getD, take, drop}
 use lib.Seq.{length-take-le, take-at, getD-take}
 use lib.IntN.{ℤ}
-use lib.Signed.{ltZ}
-use mir.Syntax.{w32}
-use mir.Val.{toZ, ofZ}
-use mir.ValLaws.{toZ-ofZ}
 use borrow.Author.Needs.{needs}
 use Rattle.laws.specs.Edits.{erase, cut, cut-one, length-cut}
-use Rattle.laws.specs.Ints.{sfits-abs}
 use Rattle.laws.specs.Loops.{loop, loop-none, loop-more, loop-end, cond-rule}
 use Rattle.laws.specs.Sorts.{least-inside}
 use Rattle.models.specs.Problem.{Stops, Demands}
-use Rattle.local_search.specs.Feasible.{demand-at}
 use Rattle.route_elimination.specs.Largest.{larger, first-largest, larger-at, first-largest-is}
-
--- a demand is its bits, read back
-pub larger-is : (demand : List ℤ) (c d : ℕ) → Demands (length demand) demand
-    → ltZ (toZ w32 (ofZ w32 (demand-at demand d))) (toZ w32 (ofZ w32 (demand-at demand c))) ≡ larger demand c d
-larger-is demand c d h = rw (back d, back c)
-  where
-    back : (i : ℕ) → toZ w32 (ofZ w32 (demand-at demand i)) ≡ demand-at demand i
-    back i = toZ-ofZ w32 (demand-at demand i) (sfits-abs w32 (demand-at demand i) (omega (arith, h .each i)))
 
 pub stop-below : (n : ℕ) (left : List ℕ) (i : ℕ) → Stops n left → i < length left → getD left i 0 < n
 stop-below n left i s h = s .each i h
@@ -41,7 +27,7 @@ module _ (demand : List ℤ) (left : List ℕ) (i best : ℕ) (v : Bool) (e : v 
   unfolding larger-at
   larger-old h = rw (← e, h)
 
-pub ruleset larger-laws = (needs, larger-is, stop-below, larger-new, larger-old)
+pub ruleset larger-laws = (needs, stop-below, larger-new, larger-old)
 
 -- ---- the loop: the first with the largest demand of the first i
 

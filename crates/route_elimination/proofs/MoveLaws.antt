@@ -1,5 +1,5 @@
 -- Laws of specs/Moves, each from the facts that the code has where it needs it. Assumes nothing.
-use Prim.Native.Nat.{ℕ, zero, suc, _+_, _-_, _^_, _≤_, _<_}
+use Prim.Native.Nat.{ℕ, suc, _+_, _-_, _≤_, _<_}
 use native.Mathlib.Omega.{arith}
 use mathlib.Core.Path.{_≡_, refl, sym, ap, subst, _∙_}
 use mathlib.Core.Bool.{Bool}
@@ -7,17 +7,15 @@ use mathlib.Core.List.{List, []}
 use mathlib.Core.Option.{Option, none, some}
 use lib.ListN.{length, getD, take}
 use lib.Seq.{length-take-le}
-use lib.IntN.{ℤ}
 use lib.Ieee.{Float}
 use mir.Syntax.{w16}
 use mir.Val.{Fits}
-use borrow.Author.Needs.{needs}
 use Rattle.floats.specs.Binary64.{_⊕_, 0f}
-use Rattle.laws.specs.All.{All, all-get, all-of}
+use Rattle.laws.specs.All.{all-get, all-of}
 use Rattle.laws.specs.Edits.{erase, all-erase, length-erase}
 use Rattle.laws.specs.Sorts.{smallest, least-inside}
 use Rattle.models.specs.Problem.{Problem, Stops}
-use Rattle.plan.specs.Plan.{Holds, Lent, Has-position, split, route, total, put-in}
+use Rattle.plan.specs.Plan.{Holds, Has-position, split, route, total, put-in}
 use Rattle.plan.specs.Slices.{length-split, length-route, route-within}
 use Rattle.plan.specs.Routes.{all-put-in}
 use Rattle.local_search.specs.declared.route.Insertion.{Insertion}

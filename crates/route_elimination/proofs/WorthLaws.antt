@@ -1,14 +1,14 @@
 -- Laws of `worth` and `insertion-worth`, each from the facts that the code has where it needs it. Assumes nothing.
 use Prim.Native.Nat.{ℕ, _+_, _-_, _≤_, _<_}
 use native.Mathlib.Omega.{arith}
-use mathlib.Core.Path.{_≡_, refl, sym, ap, _∙_}
+use mathlib.Core.Path.{_≡_, ap, _∙_}
 use mathlib.Core.Bool.{Bool, true, false}
 use mathlib.Core.List.{List, _++_}
 use lib.ListN.{length, take, drop}
 use lib.Seq.{paste, take-paste, take-length, take-at}
 use lib.Ieee.{Float}
 use Rattle.floats.specs.Binary64.{_⊖_, 0f}
-use Rattle.laws.specs.All.{All, all-of, all-get}
+use Rattle.laws.specs.All.{all-of, all-get}
 use Rattle.laws.specs.Edits.{insert-at, length-insert-at, all-insert-at}
 use Rattle.models.specs.declared.limits.RouteLimits.{RouteLimits}
 use Rattle.models.specs.RouteLimits.{limits-of}

@@ -1,25 +1,24 @@
 -- The stops of a route moved one after the other: what the code keeps between them, and that the place found lies in the plan and does not
 -- reach the cut. Assumes nothing.
-use Prim.Native.Nat.{ℕ, zero, suc, _+_, _-_, _≤_, _<_}
+use Prim.Native.Nat.{ℕ, suc, _+_, _-_, _≤_}
 use native.Mathlib.Omega.{arith}
 use mathlib.Core.Path.{_≡_, refl, sym, ap, _∙_, subst}
-use mathlib.Core.Bool.{Bool, true, false, cond}
+use mathlib.Core.Bool.{Bool, false}
 use mathlib.Core.List.{List, [], _∷_}
 use mathlib.Core.Option.{Option, none, some}
 use lib.ListN.{length, take}
 use lib.Ieee.{Float, le}
 use Rattle.floats.specs.Binary64.{_⊕_}
-use Rattle.laws.specs.Edits.{insert-at}
 use Rattle.laws.specs.Loops.{loop-rule, cond-rule, foldl}
 use Rattle.laws.specs.All.{All}
 use Rattle.models.specs.Problem.{Problem, Admitted, Stops}
 use Rattle.plan.specs.Plan.{Plan, route, split, total, Lent, Has-position, put-in}
 use Rattle.local_search.specs.Options.{bind, then-some, Each}
 use Rattle.local_search.specs.declared.route.Insertion.{Insertion}
-use Rattle.local_search.specs.Feasible.{constrained, has-room, checked}
+use Rattle.local_search.specs.Feasible.{constrained, has-room}
 use Rattle.route_elimination.specs.declared.moves.Sum.{Sum}
 use Rattle.route_elimination.specs.declared.moves.Sum.the-variants.{Nothing, At}
-use Rattle.route_elimination.specs.Eliminate.{soft, insertion-worth, candidates, by-cost, trial, first-passing, Moved, move-to, move-stop}
+use Rattle.route_elimination.specs.Eliminate.{soft, insertion-worth, candidates, by-cost, first-passing, Moved, move-to, move-stop}
 use Rattle.route_elimination.specs.Place.{counts, comes-first, settles, look-at, look-through, look-over, unless-cut, place-is}
 
 -- the other routes so far, and what was added to their worth

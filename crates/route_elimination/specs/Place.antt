@@ -12,7 +12,7 @@ use Rattle.floats.specs.Binary64.{_⊕_, 0f, is-finite, total-rank, total-less}
 use Rattle.laws.specs.Edits.{insert-at}
 use Rattle.laws.specs.Loops.{loop, loop-same, foldl}
 use Rattle.laws.specs.Sorts.{range}
-use Rattle.laws.specs.Firsts.{Ordering, ordering-by, find, find-sorted, leads, better, foldl-map, foldl-flat, foldl-keep, foldl-range}
+use Rattle.laws.specs.Firsts.{Ordering, ordering-by, find, find-sorted, better, foldl-map, foldl-flat, foldl-keep, foldl-range}
 use Rattle.models.specs.Problem.{Problem}
 use Rattle.plan.specs.Plan.{Plan, route}
 use Rattle.local_search.specs.declared.route.Insertion.{Insertion}
