@@ -1,22 +1,25 @@
--- What the branches of `abs`, `is_finite` and `is_sign_negative` return is what their definitions say.
+-- What the branches of `abs`, `is_finite`, `is_sign_negative` and `total_key` return is what their definitions say.
 -- Assumes nothing.
 use mathlib.Core.Path.{_≡_, refl, sym, _∙_}
-use Prim.Native.Nat.{ℕ, zero, suc, _+_, _*_, _≤_, _<_}
+use Prim.Native.Nat.{ℕ, zero, suc, _+_, _-_, _*_, _^_, _≤_, _<_}
 use native.Mathlib.Nat.{mul-pos, zero-lt-suc}
 use native.Mathlib.Omega.{arith}
-use mathlib.Core.Bool.{Bool, true, false, true≢false, false≢true}
+use mathlib.Core.Bool.{Bool, true, false, not, true≢false, false≢true}
 use lib.IntN.{ℤ, pos}
-use lib.Dec.{T}
+use lib.Dec.{T, ltb}
 use lib.Ieee.{Float, nan, inf, fin, binary64, up, down, sub, div, lt, le, eq, fits}
-use lib.Ieee.{ofBits}
+use lib.Ieee.{ofBits, toBits, isNan, ne}
 use lib.Ieee.Fits.{up-pos}
-use lib.Ieee.Bits.{is-true, is-false}
-use Rattle.floats.specs.Binary64.{_⊖_, _⊘_, 0f, 1f, +∞, is-finite, abs, is-sign-negative}
+use lib.Ieee.Bits.{is-true, is-false, toBits-lt}
+use borrow.Author.Tests.{lt-ltb, le-ltb}
+use Rattle.floats.specs.Binary64.{_⊖_, _⊘_, 0f, 1f, +∞, is-finite, abs, is-sign-negative, total-key, total-less}
 use Rattle.floats.specs.Order.{plus-zero, passed, failed, le→AtMost, AtMost→le, Less→lt, eq→le, eq-sym}
 use Rattle.floats.specs.Order.{eq-of-le}
 use Rattle.floats.specs.Exact.{zero-exp}
 use Rattle.floats.specs.Sign.{fits-sign, signs-le, clear-not-below}
 use Rattle.floats.specs.Plain.{add-zero-left}
+use Rattle.floats.specs.Functions.{nan-tested}
+use Rattle.floats.specs.Bits.{total-less-keys}
 
 sign-set : (m : ℕ) (e : ℤ) → le (fin true m e) 0f ≡ true
 unfolding ofBits
@@ -105,3 +108,33 @@ sign-of-other (fin true (suc m) e) h =
     under-zero a c A = omega arith
 sign-of-other (fin false (suc m) e) h =
     is-false (lt (fin false (suc m) e) plus-zero) (clear-not-below (fin false (suc m) e) refl)
+
+-- ---- `total_key`
+
+pub key-of-nan : (x : Float) → ne x x ≡ true → 0xfff8_0000_0000_0000 ≡ total-key x
+key-of-nan x h = go x (nan-tested x true h)
+  where
+    go : (x : Float) → isNan x ≡ true → 0xfff8_0000_0000_0000 ≡ total-key x
+    go nan e = unfold total-key toBits in refl
+    go (inf s) e = absurd (unfold isNan in false≢true e)
+    go (fin s m n) e = absurd (unfold isNan in false≢true e)
+
+module _ (x : Float) where
+  pub key-clear : toBits binary64 x < 2 ^ 63 → toBits binary64 x + 2 ^ 63 ≡ total-key x
+  unfolding total-key
+  key-clear h = rw (lt-ltb (toBits binary64 x) (2 ^ 63) h)
+
+  pub key-set : 2 ^ 63 ≤ toBits binary64 x → 2 ^ 64 - 1 - toBits binary64 x ≡ total-key x
+  unfolding total-key
+  key-set h = rw (le-ltb (toBits binary64 x) (2 ^ 63) h)
+
+  pub bits-asked : ne x x ≡ false → T (not (isNan x))
+  bits-asked h = rw (nan-tested x false h) tt
+
+  pub key-bits : fits binary64 x ≡ true → toBits binary64 x ≤ 2 ^ 64 - 1
+  key-bits h = omega (arith, toBits-lt binary64 x (passed (fits binary64 x) h))
+
+pub ruleset key-laws = (bits-asked, key-of-nan, key-clear, key-set, key-bits)
+
+pub keys-tested : (x y : Float) (a b : ℕ) → fits binary64 x ≡ true → fits binary64 y ≡ true → a ≡ total-key x → b ≡ total-key y → ltb a b ≡ total-less x y
+keys-tested x y a b h k e f = rw (e, f) (sym (total-less-keys x y (passed (fits binary64 x) h) (passed (fits binary64 y) k)))

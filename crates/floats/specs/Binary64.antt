@@ -1,7 +1,7 @@
 -- The vocabulary of binary64, Rust's f64: the operators, the constants, and the functions that the code stands in for.
 -- A `Float` is `nan`, an infinity `inf s`, or the number `fin s m e`, which is m * 2 ^ e, negative where s is true;
 -- zero keeps its sign. Assumes nothing.
-use Prim.Native.Nat.{_-_, _^_}
+use Prim.Native.Nat.{ℕ, _+_, _-_, _^_}
 use mathlib.Core.Bool.{Bool, true, false, cond}
 use lib.IntN.{ℤ, pos, negsuc}
 use lib.Dec.{ltb}
@@ -102,3 +102,7 @@ total-rank x = cond (ltb (toBits binary64 x) (2 ^ 63)) (pos (toBits binary64 x))
 -- Rust's `f64::total_cmp` says `Less`
 unfoldable pub total-less : Float → Float → Bool
 total-less x y = ltZ (total-rank x) (total-rank y)
+
+-- `total-rank` counted from 0 on, as a u64
+unfoldable pub total-key : Float → ℕ
+total-key x = cond (ltb (toBits binary64 x) (2 ^ 63)) (toBits binary64 x + 2 ^ 63) (2 ^ 64 - 1 - toBits binary64 x)

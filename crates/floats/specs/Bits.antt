@@ -16,12 +16,13 @@ use lib.Pow.{pow-add, pow-pos, shr-mono}
 use lib.Signed.{ltZ}
 use lib.Ieee.{Float, nan, inf, fin, Format, binary64, prec, low, up, down, size, lt, le, fits, isNan, hid, ofBits}
 use lib.Ieee.{toBits, neg}
+use borrow.Author.Tests.{lt-ltb, le-ltb, ltb-true, ltb-false}
 use lib.Ieee.Digits.{size-lt, size-le, size-reaches}
 use lib.Ieee.Fits.{kept-lt, up-pos, down-pos}
 use lib.Ieee.Bits.{is-true, is-false, ofBits-toBits, toBits-lt}
 use lib.Ieee.Positive.{num, den, den-pos}
 use lib.Ieee.Scale.{finite}
-use Rattle.floats.specs.Binary64.{is-finite, is-sign-negative, total-rank, total-less, -0f}
+use Rattle.floats.specs.Binary64.{is-finite, is-sign-negative, total-rank, total-less, total-key, -0f}
 use Rattle.floats.specs.Order.{same-test, negated, lt→le, not-lt-self, lt-of-nle}
 use Rattle.floats.specs.Exact.{whole-units, zero-exp}
 use Rattle.floats.specs.Sign.{fits-sign}
@@ -236,3 +237,42 @@ pub total-less-is : (x y : Float) → is-finite x ≡ true → is-finite y ≡ t
     → T (fits binary64 y) → (x ≡ -0f → ⊥) → total-less x y ≡ lt x y
 unfolding total-less
 total-less-is x y p q h k z = ranks x y (finite-of x p) (finite-of y q) h k z
+
+-- ---- `total_cmp` by keys
+
+module _ (a b : ℕ) where
+  keys-low : (t : ℕ) → ltb a b ≡ ltb (a + t) (b + t)
+  keys-low t = go (ltb a b) refl
+    where
+      go : (u : Bool) → ltb a b ≡ u → u ≡ ltb (a + t) (b + t)
+      go true e = sym (lt-ltb (a + t) (b + t) (omega (arith, ltb-true a b e)))
+      go false e = sym (le-ltb (a + t) (b + t) (omega (arith, ltb-false a b e)))
+
+  keys-high : (t : ℕ) → a < t → b < t → ltb b a ≡ ltb (t - 1 - a) (t - 1 - b)
+  keys-high t h k = go (ltb b a) refl
+    where
+      go : (u : Bool) → ltb b a ≡ u → u ≡ ltb (t - 1 - a) (t - 1 - b)
+      go true e = sym (lt-ltb (t - 1 - a) (t - 1 - b) (omega (arith, ltb-true b a e)))
+      go false e = sym (le-ltb (t - 1 - a) (t - 1 - b) (omega (arith, ltb-false b a e)))
+
+-- of two patterns below 2 * t
+keys : (t a b : ℕ) → a < 2 * t → b < 2 * t → (u v : Bool) → ltb a t ≡ u → ltb b t ≡ v
+    → ltZ (cond u (pos a) (negsuc (a - t))) (cond v (pos b) (negsuc (b - t))) ≡ ltb (cond u (a + t) (2 * t - 1 - a)) (cond v (b + t) (2 * t - 1 - b))
+keys t a b h k true true e f = keys-low a b t
+keys t a b h k true false e f = sym (le-ltb (a + t) (2 * t - 1 - b) (omega (arith, ltb-false b t f)))
+keys t a b h k false true e f = sym (lt-ltb (2 * t - 1 - a) (b + t) (omega (arith, ltb-false a t e)))
+keys t a b h k false false e f =
+    let d : ltb (b - t) (a - t) ≡ ltb b a = back (omega (arith, ltb-false a t e)) (omega (arith, ltb-false b t f)) in
+    d ∙ keys-high a b (2 * t) h k
+  where
+    back : t ≤ a → t ≤ b → ltb (b - t) (a - t) ≡ ltb b a
+    back p q =
+        let e : b - t + t ≡ b = omega arith in
+        let f : a - t + t ≡ a = omega arith in
+        keys-low (b - t) (a - t) t ∙ ap₂ ltb e f
+
+-- `total_cmp` says less exactly where the key is less.
+pub total-less-keys : (x y : Float) → T (fits binary64 x) → T (fits binary64 y) → total-less x y ≡ ltb (total-key x) (total-key y)
+unfolding total-less total-rank total-key
+total-less-keys x y h k =
+    keys (2 ^ 63) (toBits binary64 x) (toBits binary64 y) (toBits-lt binary64 x h) (toBits-lt binary64 y k) (ltb (toBits binary64 x) (2 ^ 63)) (ltb (toBits binary64 y) (2 ^ 63)) refl refl

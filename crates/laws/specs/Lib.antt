@@ -19,6 +19,8 @@ pub mod Overwrite
 pub mod Loops
 -- a stable sort by repeated picks of the first smallest
 pub mod Sorts
+-- the first in sorted order that passes a test, by one pass over the list
+pub mod Firsts
 -- searches over a list that end at the first hit
 pub mod Searches
 -- walks over stops that end at the first stop that cannot be served
