@@ -1,8 +1,6 @@
 -- Laws for the proofs of the code.
 -- an attempt to empty a route
 pub mod AttemptLaws
--- the rounds of attempts
-pub mod RoundLaws
 -- the next attempt of a round
 pub mod NextLaws
 -- the search
