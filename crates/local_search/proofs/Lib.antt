@@ -7,3 +7,5 @@ pub mod DistanceLaws
 pub mod FeasibleLaws
 -- for callers: from the parts that a function reads to the whole problem
 pub mod ReadLaws
+-- the rounds of attempts
+pub mod RoundLaws

@@ -7,8 +7,6 @@ pub mod TurnLaws
 pub mod LoopLaws
 -- an attempt to empty a route
 pub mod AttemptLaws
--- the rounds of attempts
-pub mod RoundLaws
 -- the next attempt of a round
 pub mod NextLaws
 -- the search

@@ -4,10 +4,10 @@ use mathlib.Core.Path.{_≡_, refl, sym, ap, subst, _∙_}
 use mathlib.Core.Bool.{Bool, true, false, not}
 use mathlib.Core.List.{List, [], _∷_, _++_, append-assoc}
 use mathlib.Core.Option.{none, some}
-use native.Mathlib.Nat.{le-refl, not-suc-le-zero, suc-mul, mul-add, mul-comm, mul-le-mul-left, mul-le-mul-right}
+use native.Mathlib.Nat.{not-suc-le-zero, suc-mul, mul-add, mul-comm, mul-le-mul-left, mul-le-mul-right}
 use native.Mathlib.Omega.{arith}
-use lib.ListN.{length, take, drop, replicate, length-append, length-replicate, take-append-drop}
-use lib.Seq.{take-at, drop-at, length-take-le}
+use lib.ListN.{length, take, drop, replicate, length-append, take-append-drop}
+use lib.Seq.{drop-at, length-take-le}
 use lib.Dec.{eqb}
 use lib.Ieee.{Float}
 use Rattle.laws.specs.Keeps.{keep, length-keep}
@@ -17,26 +17,26 @@ use Rattle.models.specs.RouteLimits.{limits-of}
 use Rattle.models.specs.Problem.{Problem, Admitted, of-distances}
 use Rattle.evaluation.specs.Check.{has-soft-windows, route-checks-needed}
 use Rattle.plan.specs.declared.order.Pick.{Pick}
-use Rattle.plan.specs.declared.order.Pick.the-variants.{Nothing, At}
-use Rattle.plan.specs.Plan.{Plan, Slices, Lent, split, flat, lengths-of, total, padded, written, drop-zero, drop-empty}
+use Rattle.plan.specs.declared.order.Pick.the-variants.{Nothing}
+use Rattle.plan.specs.Plan.{Plan, Lent, split, flat, lengths-of, total, padded, drop-zero, drop-empty}
 use Rattle.plan.specs.Order.{order, following}
 use Rattle.plan.specs.Following.{following-all}
 use Rattle.plan.specs.Slices.{length-split, lengths-split, flat-split-all}
-use Rattle.plan.specs.Dropped.{length-padded, take-padded, padded-full, total-padded, total-drop-zero, drop-zero-padded, split-padded, drop-empty-padded, drop-empty-slices}
+use Rattle.plan.specs.Dropped.{length-padded, padded-full, total-padded, total-drop-zero, drop-zero-padded, split-padded, drop-empty-padded}
 use Rattle.local_search.specs.declared.rounds.Counts.{Counts}
 use Rattle.local_search.specs.Planned.{Planned, planned-as}
 use Rattle.local_search.specs.Route.{cost}
-use Rattle.local_search.specs.Rounds.{Tried, Result, Attempt, try-each, try-all, or-end, reduce}
-use Rattle.local_search.specs.Reduced.{Bounded, triangle, triangle-is, triangle-mono}
+use Rattle.local_search.specs.Rounds.{Tried, Result, try-each, try-all, or-end, reduce}
+use Rattle.local_search.specs.Reduced.{triangle, triangle-is, triangle-mono}
+use Rattle.local_search.proofs.RoundLaws.{rounds-of, ended-with, rounds-are}
 use Rattle.route_minimization.specs.Minimize.{Allowance, attempt, minimize-routes}
 use Rattle.route_minimization.specs.Minimized.{attempt-fewer}
-use Rattle.route_minimization.specs.Attempting.{Attempting, Ends-with-0, but-last}
+use Rattle.route_minimization.specs.Attempting.{Attempting, but-last}
 use Rattle.route_minimization.specs.declared.round.Next.{Next}
 use Rattle.route_minimization.specs.declared.round.Next.the-variants.{End, Kept, Accepted}
 use Rattle.route_minimization.specs.Minimizing.{Refused, Taken, Next-leaves, Answers, Searching, tried-next}
 use Rattle.route_minimization.proofs.AttemptLaws.{cost-whole}
-use Rattle.route_minimization.proofs.NextLaws.{in-use, count-within, begun-lent, begun-routes, begun-planned}
-use Rattle.route_minimization.proofs.RoundLaws.{rounds-of, ended-with, rounds-are}
+use Rattle.route_minimization.proofs.NextLaws.{in-use, count-within, begun-routes, begun-planned}
 
 -- ---- the steps of a call
 

@@ -1,6 +1,6 @@
 -- The next attempt of a round: what a round starts with, and what each answer says of the attempts from the last pick on. Assumes nothing.
-use Prim.Native.Nat.{ℕ, suc, _+_, _*_, _≤_, _<_}
-use mathlib.Core.Path.{_≡_, refl, sym, ap, subst, _∙_}
+use Prim.Native.Nat.{ℕ, _+_, _*_, _≤_, _<_}
+use mathlib.Core.Path.{_≡_, sym, ap, subst, _∙_}
 use mathlib.Core.Bool.{not}
 use mathlib.Core.List.{List, [], _∷_}
 use mathlib.Core.Option.{none, some}
@@ -9,10 +9,10 @@ use native.Mathlib.Omega.{arith}
 use lib.ListN.{length, take}
 use lib.Dec.{eqb}
 use lib.Ieee.{Float}
-use Rattle.laws.specs.All.{All, all-of}
+use Rattle.laws.specs.All.{all-of}
 use Rattle.laws.specs.Counts.{same-length}
 use Rattle.laws.specs.Keeps.{length-keep}
-use Rattle.models.specs.Problem.{Problem, Stops}
+use Rattle.models.specs.Problem.{Problem}
 use Rattle.plan.specs.declared.order.Pick.{Pick}
 use Rattle.plan.specs.declared.order.Pick.the-variants.{Nothing, At}
 use Rattle.plan.specs.Plan.{Plan, Lent, split, flat, total, padded, drop-zero, drop-empty}
@@ -21,19 +21,18 @@ use Rattle.plan.specs.Following.{following-at, following-nothing, next-pick-ins
 use Rattle.plan.specs.Slices.{length-split, flat-split-all, lengths-split, total-lengths}
 use Rattle.plan.specs.Dropped.{length-padded, take-padded, total-drop-zero, drop-empty-slices, flat-drop-empty, occurs-drop-empty}
 use Rattle.local_search.specs.declared.rounds.Counts.{Counts}
-use Rattle.local_search.specs.Options.{Each, each-found}
-use Rattle.local_search.specs.Planned.{Planned, planned-as, planned-stops}
+use Rattle.local_search.specs.Options.{each-found}
+use Rattle.local_search.specs.Planned.{Planned, planned-as}
 use Rattle.local_search.specs.Route.{cost}
 use Rattle.local_search.specs.Rounds.{Tried, Attempt, try-each}
 use Rattle.local_search.specs.RoundRules.{try-next, try-taken}
 use Rattle.local_search.specs.Reduced.{Better, Bounded}
 use Rattle.route_minimization.specs.declared.attempt.Attempted.{Attempted}
 use Rattle.route_minimization.specs.declared.attempt.Attempted.the-variants.{Kept, Accepted}
-use Rattle.route_minimization.specs.declared.round.Next.the-variants.{End, Kept as Goes-on, Accepted as Begins-again}
 use Rattle.route_minimization.specs.Minimize.{Allowance, attempt}
 use Rattle.route_minimization.specs.Minimized.{attempt-bounded, attempt-better}
 use Rattle.route_minimization.specs.Attempting.{Ends-with-0, Leaves, tried, but-last}
-use Rattle.route_minimization.specs.Minimizing.{Refused, Taken, Next-leaves, tried-next}
+use Rattle.route_minimization.specs.Minimizing.{Refused, Taken}
 
 -- ---- the start of a round
 

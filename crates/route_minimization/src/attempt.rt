@@ -1,7 +1,7 @@
 // An attempt to empty a route into the others (local_search/route_minimization.rs, the body of the round in `minimize_routes`).
 ghost use mathlib.Core.Path.{_≡_};
 ghost use mathlib.Core.List.{reverse};
-ghost use Prim.Native.Nat.{_+_, _-_, _*_, _<_, _≤_};
+ghost use Prim.Native.Nat.{_-_, _*_, _<_, _≤_};
 ghost use lib.ListN.{length, replicate};
 ghost use lib.Ieee.{lt};
 ghost use Rattle.floats.specs.Binary64.{_⊖_, _⊗_, 1e-12, abs};

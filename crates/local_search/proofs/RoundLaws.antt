@@ -3,7 +3,7 @@
 use Prim.Native.Nat.{ℕ, zero, suc, _≤_, _<_}
 use mathlib.Core.Path.{_≡_, refl, sym, ap, _∙_}
 use mathlib.Core.Bool.{Bool, true, false}
-use mathlib.Core.List.{List, [], _∷_}
+use mathlib.Core.List.{[], _∷_}
 use mathlib.Core.Option.{Option, none, some}
 use native.Mathlib.Omega.{arith}
 use borrow.Author.Tests.{eqb-true, eqb-false}
@@ -11,16 +11,11 @@ use lib.ListN.{length}
 use lib.Dec.{eqb}
 use Rattle.laws.specs.Keeps.{length-keep}
 use Rattle.laws.specs.Sorts.{range, smallest, sort-by}
-use Rattle.plan.specs.Plan.{Plan, lengths-of, non-empty, drop-empty}
-use Rattle.plan.specs.Order.{order, next-pick, following}
-use Rattle.plan.specs.Following.{following-at, following-nothing, following-all}
-use Rattle.plan.specs.declared.order.Pick.{Pick}
-use Rattle.plan.specs.declared.order.Pick.the-variants.{Nothing, At}
+use Rattle.plan.specs.Plan.{Plan, non-empty, drop-empty}
 use Rattle.local_search.specs.Options.{Each, each-found}
 use Rattle.local_search.specs.declared.rounds.Counts.{Counts}
-use Rattle.local_search.specs.Rounds.{Tried, Result, Attempt, try-each, try-all, or-end, rounds, reduce}
-use Rattle.local_search.specs.RoundRules.{try-next, try-taken}
+use Rattle.local_search.specs.Rounds.{Tried, Result, Attempt, try-each, try-all, or-end, rounds}
 use Rattle.local_search.specs.Reduced.{round-has, rounds-enough}
 
 -- the rounds from the routes on, as many as there are routes
 abbrev pub rounds-of : Attempt → Plan → Counts → Result
