@@ -216,12 +216,7 @@ pub fn route_distance(
     if r != 0 {
         return Number::Refused(r);
     }
-    let x = route::route_distance(
-        route,
-        vehicle.depot_id,
-        n,
-        distances,
-    );
+    let x = route::route_distance(route, vehicle.depot_id, n, distances);
     Number::Answered(x)
 }
 
@@ -256,16 +251,7 @@ pub fn lateness_bound(
     if r != 0 {
         return Number::Refused(r);
     }
-    let x = bound::lateness_bound(
-        n,
-        distances,
-        times,
-        service,
-        ready,
-        due,
-        penalty,
-        flags,
-    );
+    let x = bound::lateness_bound(n, distances, times, service, ready, due, penalty, flags);
     Number::Answered(x)
 }
 
@@ -300,9 +286,7 @@ pub fn gain_floor(
     if r != 0 {
         return Number::Refused(r);
     }
-    let x = route::gain_floor(
-        distances,
-    );
+    let x = route::gain_floor(distances);
     Number::Answered(x)
 }
 
