@@ -69,7 +69,7 @@ pub fn route_feasible(
     if r != 0 {
         return Checked::Refused(r);
     }
-    let x = check::route_feasible(
+    let passes = check::route_feasible(
         route,
         vehicle.depot_id,
         RouteLimits::of(vehicle),
@@ -82,7 +82,7 @@ pub fn route_feasible(
         penalty,
         flags,
     );
-    Checked::Answered(x)
+    Checked::Answered(passes)
 }
 
 // The evaluation of a route.
@@ -118,7 +118,7 @@ pub fn route_eval(
     if r != 0 {
         return Evaluated::Refused(r);
     }
-    let x = eval::route_eval(
+    let worth = eval::route_eval(
         route,
         vehicle.depot_id,
         RouteLimits::of(vehicle),
@@ -131,7 +131,7 @@ pub fn route_eval(
         penalty,
         flags,
     );
-    Evaluated::Answered(x)
+    Evaluated::Answered(worth)
 }
 
 // What a route costs with its lateness.
@@ -167,7 +167,7 @@ pub fn effective_cost(
     if r != 0 {
         return Number::Refused(r);
     }
-    let x = eval::effective_cost(
+    let cost = eval::effective_cost(
         route,
         vehicle.depot_id,
         RouteLimits::of(vehicle),
@@ -180,7 +180,7 @@ pub fn effective_cost(
         penalty,
         flags,
     );
-    Number::Answered(x)
+    Number::Answered(cost)
 }
 
 // The distance of a route.
@@ -216,8 +216,8 @@ pub fn route_distance(
     if r != 0 {
         return Number::Refused(r);
     }
-    let x = route::route_distance(route, vehicle.depot_id, n, distances);
-    Number::Answered(x)
+    let distance = route::route_distance(route, vehicle.depot_id, n, distances);
+    Number::Answered(distance)
 }
 
 // The bound on the lateness cost of a route.
@@ -251,8 +251,8 @@ pub fn lateness_bound(
     if r != 0 {
         return Number::Refused(r);
     }
-    let x = bound::lateness_bound(n, distances, times, service, ready, due, penalty, flags);
-    Number::Answered(x)
+    let most = bound::lateness_bound(n, distances, times, service, ready, due, penalty, flags);
+    Number::Answered(most)
 }
 
 // The least gain that counts as one.
@@ -286,8 +286,8 @@ pub fn gain_floor(
     if r != 0 {
         return Number::Refused(r);
     }
-    let x = route::gain_floor(distances);
-    Number::Answered(x)
+    let floor = route::gain_floor(distances);
+    Number::Answered(floor)
 }
 
 // The schedule of a route with the break that is given, without limits.
@@ -325,7 +325,7 @@ pub fn schedule(
     if r != 0 {
         return Evaluated::Refused(r);
     }
-    let x = schedule::schedule(
+    let timed = schedule::schedule(
         route,
         vehicle.depot_id,
         rest,
@@ -338,7 +338,7 @@ pub fn schedule(
         penalty,
         flags,
     );
-    Evaluated::Answered(x)
+    Evaluated::Answered(timed)
 }
 
 // A window of two finite numbers in order. It is never refused.
