@@ -10,8 +10,7 @@ impl Maker {
     pub(super) fn gain(&mut self, problem: &mut Problem) -> Routes {
         let n = problem.places;
         let depot = problem.vehicle.depot;
-        let mut stops: Vec<usize> = (0..n).filter(|&i| i != depot).collect();
-        self.random.shuffle(&mut stops);
+        let mut stops = self.shuffled_stops(problem);
         let head = stops.remove(0);
         let count = self.random.between(2, 4).min(stops.len());
         let mut routes = self.split(stops, count);
@@ -60,13 +59,20 @@ impl Maker {
         routes
     }
 
+    /// Every place but the depot, in a random order.
+    fn shuffled_stops(&mut self, problem: &Problem) -> Vec<usize> {
+        let depot = problem.vehicle.depot;
+        let mut stops: Vec<usize> = (0..problem.places).filter(|&i| i != depot).collect();
+        self.random.shuffle(&mut stops);
+        stops
+    }
+
     /// Two routes, [x, y] and another: x goes into the other for less than nothing, and y then for more than is saved,
     /// so that together they pay, or just do not.
     pub(super) fn short_way(&mut self, problem: &mut Problem) -> Routes {
         let n = problem.places;
         let depot = problem.vehicle.depot;
-        let mut stops: Vec<usize> = (0..n).filter(|&i| i != depot).collect();
-        self.random.shuffle(&mut stops);
+        let stops = self.shuffled_stops(problem);
         let (x, y, next) = (stops[0], stops[1], stops[2]);
         let (leg, to_x, x_to_y, gain) = (self.number(), self.number(), self.number(), self.number());
         let part = self.random.pick(&[0.0, 0.3, 0.5, 0.7, 1.0]);
@@ -97,8 +103,7 @@ impl Maker {
     pub(super) fn quick(&mut self, problem: &mut Problem) -> Routes {
         let n = problem.places;
         let depot = problem.vehicle.depot;
-        let mut stops: Vec<usize> = (0..n).filter(|&i| i != depot).collect();
-        self.random.shuffle(&mut stops);
+        let stops = self.shuffled_stops(problem);
         let (c, p, q) = (stops[0], stops[1], stops[2]);
         let edge = self.random.below(5);
         let (size, beyond) = match edge {
@@ -162,8 +167,7 @@ impl Maker {
     pub(super) fn labels(&mut self, problem: &mut Problem) -> Routes {
         let n = problem.places;
         let depot = problem.vehicle.depot;
-        let mut stops: Vec<usize> = (0..n).filter(|&i| i != depot).collect();
-        self.random.shuffle(&mut stops);
+        let stops = self.shuffled_stops(problem);
         let (a, b, c) = (stops[0], stops[1], stops[2]);
         problem.times.clear();
         problem.flags[b] |= WINDOW;

@@ -137,27 +137,23 @@ impl Steps<'_> {
         after
     }
 
+    /// Whether a value keeps a limit, with the event where it meets it exactly or is over it.
+    fn keeps(&mut self, value: f64, limit: Option<f64>, exact: Event, over: Event) -> bool {
+        let Some(most) = limit else { return true };
+        if value == most {
+            self.events.add(exact);
+        } else if value > most {
+            self.events.add(over);
+        }
+        value <= most
+    }
+
     pub(super) fn route_eval(&mut self, stops: impl Iterator<Item = usize>) -> Option<Eval> {
         let vehicle = &self.problem.vehicle;
         let eval = self.walk(stops, vehicle.rest)?;
-        let mut allowed = true;
-        if let Some(most) = vehicle.max_distance {
-            allowed &= eval.distance <= most;
-            if eval.distance == most {
-                self.events.add(Event::DistanceExact);
-            } else if eval.distance > most {
-                self.events.add(Event::DistanceOver);
-            }
-        }
-        if let Some(most) = vehicle.max_duration {
-            allowed &= eval.duration <= most;
-            if eval.duration == most {
-                self.events.add(Event::DurationExact);
-            } else if eval.duration > most {
-                self.events.add(Event::DurationOver);
-            }
-        }
-        allowed.then_some(eval)
+        let near = self.keeps(eval.distance, vehicle.max_distance, Event::DistanceExact, Event::DistanceOver);
+        let soon = self.keeps(eval.duration, vehicle.max_duration, Event::DurationExact, Event::DurationOver);
+        (near && soon).then_some(eval)
     }
 
     /// The route check.
