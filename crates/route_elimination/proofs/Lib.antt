@@ -11,3 +11,5 @@ pub mod LargestLaws
 pub mod MoveLaws
 -- an attempt
 pub mod AttemptLaws
+-- the search
+pub mod EliminateLaws

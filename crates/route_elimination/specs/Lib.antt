@@ -11,6 +11,8 @@ pub mod Largest
 pub mod Moves
 -- what an attempt asks and leaves
 pub mod Attempts
+-- what the search asks for
+pub mod Eliminating
 -- what an attempt and the search keep
 pub mod Eliminated
 -- every definition, opened for theorems by computation

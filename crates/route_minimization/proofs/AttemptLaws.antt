@@ -25,6 +25,7 @@ use Rattle.local_search.specs.Options.{Each, each-found, bind, then-some}
 use Rattle.local_search.specs.Planned.{Planned, planned-stops}
 use Rattle.local_search.specs.Route.{cost}
 use Rattle.local_search.specs.Rounds.{Tried}
+use Rattle.local_search.specs.Search.{Ends-with-0, but-last}
 use Rattle.local_search.proofs.ReadLaws.{cost-any}
 use Rattle.ejection.specs.Made.{stack}
 use Rattle.route_minimization.specs.declared.pool.Emptied.{Emptied}
@@ -35,7 +36,7 @@ use Rattle.route_minimization.specs.Minimize.{Allowance, State, Turn, st
 use Rattle.route_minimization.specs.Turns.{Then, turn-rule, pool-rule}
 use Rattle.route_minimization.specs.Pooled.{Pooled, pooled-planned, pooled-more}
 use Rattle.route_minimization.specs.Running.{Running, state, said}
-use Rattle.route_minimization.specs.Attempting.{Attempting, Ends-with-0, Leaves, tried, judged, but-last}
+use Rattle.route_minimization.specs.Attempting.{Attempting, Leaves, tried, judged}
 
 -- ---- the pool at the start
 

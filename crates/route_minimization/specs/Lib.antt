@@ -13,7 +13,7 @@ pub mod Pooled
 pub mod Running
 -- an attempt as the code makes it
 pub mod Attempting
--- the search as the code makes it
+-- what the search asks for
 pub mod Minimizing
 -- the cost falls
 pub mod Falls

@@ -17,12 +17,12 @@ use Rattle.evaluation.specs.Check.{has-soft-windows}
 use Rattle.plan.specs.Plan.{Plan, route, put-in, non-empty, drop-empty, occurs}
 use Rattle.plan.specs.Routes.{occurs-set, length-put-in, occurs-put-in, all-put-in, occurs-erase}
 use Rattle.plan.specs.Dropped.{occurs-drop-empty}
-use Rattle.local_search.specs.Options.{Each, each-found, each-then-some, each-bind, each-map}
+use Rattle.local_search.specs.Options.{Each, each-found, each-then-some, each-bind}
 use Rattle.local_search.specs.Route.{cost}
 use Rattle.local_search.specs.Feasible.{feasible}
 use Rattle.local_search.specs.declared.rounds.Counts.{Counts}
 use Rattle.local_search.specs.Rounds.{Tried, Result, reduce}
-use Rattle.local_search.specs.Reduced.{Better, Bounded, triangle, Ended, reduce-ended}
+use Rattle.local_search.specs.Reduced.{Better, Bounded, Reduces, reduces-fewer, triangle, Ended, reduce-ended}
 use Rattle.insertion.specs.Cheapest.{cheapest}
 use Rattle.ejection.specs.declared.Ejection.{Ejection}
 use Rattle.ejection.specs.Eject.{kept, eject, into, make-room, gone}
@@ -142,12 +142,17 @@ module _ (p : Problem) (G : List ℕ → Type 0) (pass : (r : List ℕ) → feas
         kinds = all-erase r g;
       }))
 
+-- the laws of the rounds speak of this search
+pub attempt-reduces : (given : Allowance) (p : Problem) → Reduces (attempt given p) (given .limit)
+attempt-reduces given p = record {
+  better = λ routes r n r-in. attempt-better p (λ q. Unit) (λ q _ _. tt) routes given r n r-in (all-of routes [] (λ i h. tt));
+  bounded = attempt-bounded given p;
+}
+
 -- an accepted attempt leaves fewer routes, so `rounds-enough` speaks of this search: the bound on the rounds never cuts it short
 pub attempt-fewer : (given : Allowance) (p : Problem) (routes : Plan) (r : ℕ) (n : Counts) → r < length routes
     → Each (λ x. length x < length routes) (attempt given p routes r n .plan)
-attempt-fewer given p routes r n r-in =
-    each-map (Better (λ q. Unit) routes) (λ x. length x < length routes) (attempt given p routes r n .plan) (λ x b. omega (arith, b .fewer))
-    (attempt-better p (λ q. Unit) (λ q _ _. tt) routes given r n r-in (all-of routes [] (λ i h. tt)))
+attempt-fewer given p = reduces-fewer (attempt given p) (given .limit) (attempt-reduces given p)
 
 -- ---- the search
 
