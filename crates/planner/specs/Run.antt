@@ -16,7 +16,8 @@ use Rattle.local_search.specs.declared.rounds.Counts.{Counts}
 use Rattle.route_minimization.specs.Minimize.{Allowance}
 use Rattle.entry.specs.Table.{Work}
 use Rattle.entry.specs.Given.{entry}
-use Rattle.planner.specs.Calls.{Answer, refused, answered, Done, Reply, plan-in, public-minimise, public-eliminate}
+use Rattle.planner.specs.declared.calls.Done.{Done}
+use Rattle.planner.specs.Calls.{Answer, refused, answered, Reply, plan-in, public-minimise, public-eliminate}
 
 -- ---- calls
 
