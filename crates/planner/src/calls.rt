@@ -89,9 +89,10 @@ pub fn minimise(
         penalty,
         flags,
     );
+    let counts = done.counts;
     Replied::Answered(Done {
         routes: done.routes,
-        counts: done.counts,
+        counts,
     })
 }
 
