@@ -68,7 +68,7 @@ pub fn minimise(
         cells.len(),
     );
     if r != 0 {
-        return Replied::Refused(r);
+        return Replied::Refused(r); // before the first draw
     }
     let done = minimize_routes(
         lengths,
@@ -133,7 +133,7 @@ pub fn eliminate(
         work.len(),
         cells.len(),
     );
-    if r != 0 {
+    if r != 0 { // before the first attempt
         return Replied::Refused(r);
     }
     let routes = eliminate_routes(

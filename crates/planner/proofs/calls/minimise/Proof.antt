@@ -1,6 +1,7 @@
 -- `calls::minimise` meets its contract.
 use borrow.Author.Needs.{needs}
 use mathlib.Core.Path.{refl}
+use native.Mathlib.Omega.{arith}
 use Rattle.planner.proofs.CallLaws.{minimise-refused, minimise-searches, minimise-answers}
 use Rattle.planner.proofs.calls.minimise.Statement.{statement}
 use Rattle.planner.proofs.calls.minimise.Tie as tie
@@ -15,10 +16,12 @@ same-length-2 : tie.Need-same-length-2
 same-length-2 c = search needs
 
 returns : tie.Need-returns
-returns c = minimise-refused _ _ _ _ _ _ (c .before .minimise-refusal .ensures) (c .if1 .taken) _
+returns c = minimise-refused _ _ _ _ _ _ (c .before .minimise-refusal .ensures) (λ z. omega (arith, c .if1 .taken, z)) _
 
 minimize-routes-requires : tie.Need-minimize-routes-requires
-minimize-routes-requires c κs = minimise-searches _ _ _ _ _ _ (c .before .before .before .before .before .minimise-refusal .ensures) (c .before .before .before .before .if1 .left) _ _ refl
+minimize-routes-requires c κs =
+    let t = c .before .before .before .before .before .minimise-refusal in
+    minimise-searches _ _ (t .result) _ _ _ (t .ensures) (omega (arith, c .before .before .before .before .if1 .left)) _ _ refl
 
 same-length-3 : tie.Need-same-length-3
 same-length-3 c = search needs
@@ -33,7 +36,9 @@ same-length-6 : tie.Need-same-length-6
 same-length-6 c = search needs
 
 returns-2 : tie.Need-returns-2
-returns-2 c = minimise-answers _ _ _ _ _ _ (c .before .before .before .before .before .before .before .before .before .before .before .before .before .before .before .minimise-refusal .ensures) (c .before .before .before .before .before .before .before .before .before .before .before .before .before .before .if1 .left) _ _ _ (c .before .before .before .before .before .before .before .before .before .minimize-routes .ensures)
+returns-2 c =
+    let t = c .before .before .before .before .before .before .before .before .before .before .before .before .before .before .before .minimise-refusal in
+    minimise-answers _ _ (t .result) _ _ _ (t .ensures) (omega (arith, c .before .before .before .before .before .before .before .before .before .before .before .before .before .before .if1 .left)) _ _ _ (c .before .before .before .before .before .before .before .before .before .minimize-routes .ensures)
 
 pub minimise-spec : {M : Type 1} → statement M
 minimise-spec =
