@@ -9,16 +9,17 @@ use lib.Ieee.{Float}
 use Rattle.models.specs.Problem.{Problem}
 use Rattle.plan.specs.Plan.{Slices}
 use Rattle.local_search.specs.declared.rounds.Counts.{Counts}
+use Rattle.local_search.specs.declared.rounds.Reduction.{Reduction}
 use Rattle.local_search.specs.Rounds.{Result}
+use Rattle.local_search.specs.Search.{Answers}
 use Rattle.route_minimization.specs.Minimize.{minimize-routes}
-use Rattle.route_minimization.specs.Minimizing.{Answers, Searching}
+use Rattle.route_minimization.specs.Minimizing.{Searching}
 use Rattle.route_minimization.specs.Running.{allowance}
 use Rattle.route_elimination.specs.Eliminate.{eliminate-routes}
 use Rattle.route_elimination.specs.Eliminating.{Eliminating}
 use Rattle.entry.specs.Table.{Work, refusal}
 use Rattle.entry.specs.Given.{numbered, minimise-inputs, eliminate-inputs}
 use Rattle.entry.proofs.AdmittedLaws.{not-refused, minimise-accepted, eliminate-accepted}
-use Rattle.planner.specs.declared.calls.Done.{Done}
 use Rattle.planner.specs.Calls.{refused, answered, Reply, plan-in, reply, public-minimise, public-eliminate}
 use Rattle.planner.specs.Told.{work-of}
 
@@ -29,15 +30,15 @@ unfolding reply
 reply-refused zero o s x e h = absurd (h refl)
 reply-refused (suc r) o s x e h = ap (λ (y : Option ℕ). reply s y x) e
 
-done-is : (d : Done) (routes : ℕ) (counts : Counts) → d .routes ≡ routes → d .counts ≡ counts → d ≡ record { routes = routes; counts = counts }
-done-is d routes counts e f =
+reduction-is : (d : Reduction) (routes : ℕ) (counts : Counts) → d .routes ≡ routes → d .counts ≡ counts → d ≡ record { routes = routes; counts = counts }
+reduction-is d routes counts e f =
     ap (λ (k : ℕ). record { routes = k; counts = d .counts }) e ∙ ap (λ (n : Counts). record { routes = routes; counts = n }) f
 
-reply-answered : (r : ℕ) (o : Option ℕ) (s t : Slices) (x : Result) (d : Done) → numbered r ≡ o → r ≡ 0
+reply-answered : (r : ℕ) (o : Option ℕ) (s t : Slices) (x : Result) (d : Reduction) → numbered r ≡ o → r ≡ 0
     → Answers x (length (s .lengths)) (d .routes) (d .counts) (t .lengths) (t .stops) → _≡_ {A = Reply} (record { answer = answered d; slices = t }) (reply s o x)
 unfolding reply
 reply-answered r o s t x d e h a =
-    ap (λ (y : Done). record { answer = answered y; slices = t }) (done-is d (length (x .plan)) (x .counts) (a .routes) (a .counted))
+    ap (λ (y : Reduction). record { answer = answered y; slices = t }) (reduction-is d (length (x .plan)) (x .counts) (a .routes) (a .counted))
     ∙ ap (λ (y : Slices). record { answer = answered (record { routes = length (x .plan); counts = x .counts }); slices = y }) (a .slices)
     ∙ ap (λ (y : Option ℕ). reply s y x) (sym (ap numbered h) ∙ e)
 
@@ -66,7 +67,7 @@ module _ (p : Problem) (s : Slices) (r : ℕ) where
             cells-room = omega (arith, a .1 .enough .f64-there, ap (λ (x : Work). x .f64-cells) f);
           }
 
-      pub minimise-answers : (clock : ℕ) (d : Done) (t : Slices)
+      pub minimise-answers : (clock : ℕ) (d : Reduction) (t : Slices)
           → Answers (minimize-routes (allowance limit clock tape) p (plan-in s)) (length (s .lengths)) (d .routes) (d .counts) (t .lengths) (t .stops)
           → _≡_ {A = Reply} (record { answer = answered d; slices = t }) (public-minimise p s (allowance limit clock tape) w)
       unfolding public-minimise
@@ -91,7 +92,7 @@ module _ (p : Problem) (s : Slices) (r : ℕ) where
             work-room = omega (arith, a .1 .u16-there, f);
           }
 
-      pub eliminate-answers : (d : Done) (t : Slices)
+      pub eliminate-answers : (d : Reduction) (t : Slices)
           → Answers (record { plan = eliminate-routes p (plan-in s); counts = record { steps = 0; draws = 0 } }) (length (s .lengths))
           (d .routes) (d .counts) (t .lengths) (t .stops)
           → _≡_ {A = Reply} (record { answer = answered d; slices = t }) (public-eliminate p s w)

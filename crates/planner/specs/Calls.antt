@@ -17,12 +17,12 @@ use Rattle.evaluation.specs.Check.{route-feasible}
 use Rattle.evaluation.specs.Bound.{lateness-bound}
 use Rattle.plan.specs.Plan.{Plan, Slices, split, written}
 use Rattle.local_search.specs.Route.{route-distance, gain-floor}
+use Rattle.local_search.specs.declared.rounds.Reduction.{Reduction}
 use Rattle.local_search.specs.Rounds.{Result}
 use Rattle.route_minimization.specs.Minimize.{Allowance, minimize-routes}
 use Rattle.route_elimination.specs.Eliminate.{eliminate-routes}
 use Rattle.entry.specs.Table.{Work, refusal}
 use Rattle.entry.specs.Given.{problem-inputs, route-inputs, schedule-inputs, minimise-inputs, eliminate-inputs}
-use Rattle.planner.specs.declared.calls.Done.{Done}
 
 -- "A refusal returns its number only"
 pub data Answer (A : Type 0) : Type 0 where
@@ -71,7 +71,7 @@ public-time-window-new ready due = time-window-new ready due
 
 -- a call's answer ("A call returns r"; "Results carry steps and draws."), and both slices after it
 pub record Reply : Type 0 where
-  pub answer : Answer Done
+  pub answer : Answer Reduction
   pub slices : Slices
 
 -- the plan in two slices

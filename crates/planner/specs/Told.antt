@@ -11,8 +11,8 @@ use Rattle.planner.specs.declared.questions.Evaluated.the-variants.{Refu
 use Rattle.planner.specs.declared.questions.Number.{Number}
 use Rattle.planner.specs.declared.questions.Number.the-variants.{Refused as NoNumber, Answered as NumberAs}
 use Rattle.plan.specs.Plan.{Slices}
+use Rattle.local_search.specs.declared.rounds.Reduction.{Reduction}
 use Rattle.entry.specs.Table.{Work}
-use Rattle.planner.specs.declared.calls.Done.{Done}
 use Rattle.planner.specs.declared.calls.Replied.{Replied}
 use Rattle.planner.specs.declared.calls.Replied.the-variants.{Refused as NotReplied, Answered as RepliedAs}
 use Rattle.planner.specs.Calls.{Answer, refused, answered, Reply}
@@ -29,7 +29,7 @@ abbrev pub number-told : Number → Answer Float
 number-told (NoNumber n) = refused n
 number-told (NumberAs x) = answered x
 
-abbrev pub replied-told : Replied → Answer Done
+abbrev pub replied-told : Replied → Answer Reduction
 replied-told (NotReplied n) = refused n
 replied-told (RepliedAs d) = answered d
 

@@ -8,20 +8,15 @@ ghost use Rattle.planner.specs.Told.{reply-of, slices-of, work-of};
 use entry::calls::eliminate_refusal;
 use entry::calls::minimise_refusal;
 use local_search::rounds::Counts;
+use local_search::rounds::Reduction;
 use models::vehicle::Vehicle;
 use route_elimination::eliminate_routes;
 use route_minimization::minimize_routes;
 
-// How many routes are left, and what the call counted.
-pub struct Done {
-    pub routes: usize,
-    pub counts: Counts,
-}
-
-// What a call did, or the number of the refusal.
+// How many routes are left and what the call counted, or the number of the refusal.
 pub enum Replied {
     Refused(u8),
-    Answered(Done),
+    Answered(Reduction),
 }
 
 // Fewer routes by an ejection pool, with at most `limit` steps in an attempt, draws from the tape, and a clock that stops at the asking after the first
@@ -89,11 +84,7 @@ pub fn minimise(
         penalty,
         flags,
     );
-    let counts = done.counts;
-    Replied::Answered(Done {
-        routes: done.routes,
-        counts,
-    })
+    Replied::Answered(done)
 }
 
 // Fewer routes where the others take a route's stops for less than it costs. The f64 work cells are counted and not touched.
@@ -151,7 +142,7 @@ pub fn eliminate(
         penalty,
         flags,
     );
-    Replied::Answered(Done {
+    Replied::Answered(Reduction {
         routes,
         counts: Counts { steps: 0, draws: 0 },
     })

@@ -37,8 +37,8 @@ same-length-6 c = search needs
 
 returns-2 : tie.Need-returns-2
 returns-2 c =
-    let t = c .before .before .before .before .before .before .before .before .before .before .before .before .before .before .before .minimise-refusal in
-    minimise-answers _ _ (t .result) _ _ _ (t .ensures) (omega (arith, c .before .before .before .before .before .before .before .before .before .before .before .before .before .before .if1 .left)) _ _ _ (c .before .before .before .before .before .before .before .before .before .minimize-routes .ensures)
+    let t = c .before .before .before .before .before .before .before .before .before .before .before .before .before .before .minimise-refusal in
+    minimise-answers _ _ (t .result) _ _ _ (t .ensures) (omega (arith, c .before .before .before .before .before .before .before .before .before .before .before .before .before .if1 .left)) _ _ _ (c .before .before .before .before .before .before .before .before .minimize-routes .ensures)
 
 pub minimise-spec : {M : Type 1} → statement M
 minimise-spec =
