@@ -22,7 +22,8 @@ use Rattle.local_search.specs.Search.{Ends-with-0, but-last, Refused, Taken, Ne
 use Rattle.local_search.proofs.RoundLaws.{rounds-of}
 use Rattle.local_search.proofs.NextLaws.{pick-there, next-kept, next-refused, next-accepted, next-taken}
 use Rattle.local_search.proofs.SearchLaws.{Rounding, Trying, trying-whole, trying-few, trying-routes-few, trying-planned, refused, taken, after-kept, after-accepted}
-use Rattle.route_elimination.specs.Eliminate.{soft, without-route, attempt, eliminate-routes}
+use Rattle.reinsertion.specs.Candidates.{soft}
+use Rattle.route_elimination.specs.Eliminate.{without-route, attempt, eliminate-routes}
 use Rattle.route_elimination.specs.Attempts.{Attempted, fewer, Accepted, Left}
 use Rattle.route_elimination.specs.Eliminating.{Eliminating}
 use Rattle.route_elimination.specs.Eliminated.{attempt-reduces}

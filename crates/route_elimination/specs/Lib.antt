@@ -1,10 +1,6 @@
 -- Route elimination. A file uses only files above it in this list.
 -- the attempt to move each stop of a route, and the search
 pub mod Eliminate
--- the place for a stop by one pass over routes and positions
-pub mod Place
--- what the code asks of a stop, a route and a plan
-pub mod Asked
 -- the stops that are moved, the largest demand first
 pub mod Largest
 -- the stops moved one after the other

@@ -18,9 +18,7 @@ use plan::order::Pick;
 pub mod attempt;
 pub mod largest;
 pub mod moves;
-pub mod place;
 pub mod round;
-pub mod worth;
 
 // `eliminate_routes`: rounds of attempts, begun again from the shortest route as soon as one is accepted. How many routes are left.
 pub fn eliminate_routes(
