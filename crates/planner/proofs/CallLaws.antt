@@ -14,7 +14,7 @@ use Rattle.local_search.specs.Rounds.{Result}
 use Rattle.local_search.specs.Search.{Answers}
 use Rattle.route_minimization.specs.Minimize.{minimize-routes}
 use Rattle.route_minimization.specs.Minimizing.{Searching}
-use Rattle.route_minimization.specs.Running.{allowance}
+use Rattle.ejection_pool.specs.Running.{allowance}
 use Rattle.route_elimination.specs.Eliminate.{eliminate-routes}
 use Rattle.route_elimination.specs.Eliminating.{Eliminating}
 use Rattle.entry.specs.Table.{Work, refusal}

@@ -14,7 +14,7 @@ use Rattle.local_search.specs.Route.{cost}
 use Rattle.local_search.specs.Feasible.{Sound}
 use Rattle.local_search.specs.declared.rounds.Counts.{Counts}
 use Rattle.local_search.specs.declared.rounds.Reduction.{Reduction}
-use Rattle.route_minimization.specs.Minimize.{Allowance}
+use Rattle.ejection_pool.specs.Pool.{Allowance}
 use Rattle.entry.specs.Table.{Work}
 use Rattle.entry.specs.Given.{entry}
 use Rattle.planner.specs.Calls.{Answer, refused, answered, Reply, plan-in, public-minimise, public-eliminate}

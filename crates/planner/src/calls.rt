@@ -2,7 +2,7 @@
 ghost use mathlib.Core.Path.{_≡_};
 ghost use lib.ListN.{length};
 ghost use Rattle.models.specs.Problem.{problem};
-ghost use Rattle.route_minimization.specs.Running.{allowance};
+ghost use Rattle.ejection_pool.specs.Running.{allowance};
 ghost use Rattle.planner.specs.Calls.{public-minimise, public-eliminate};
 ghost use Rattle.planner.specs.Told.{reply-of, slices-of, work-of};
 use entry::calls::eliminate_refusal;

@@ -19,7 +19,8 @@ use Rattle.local_search.specs.Rounds.{reduce}
 use Rattle.local_search.specs.Reduced.{triangle, triangle-is}
 use Rattle.local_search.specs.Search.{Answers}
 use Rattle.local_search.proofs.SearchLaws.{Trying, trying-steps, trying-whole, trying-few, trying-planned}
-use Rattle.route_minimization.specs.Minimize.{Allowance, attempt, minimize-routes}
+use Rattle.ejection_pool.specs.Pool.{Allowance}
+use Rattle.route_minimization.specs.Minimize.{attempt, minimize-routes}
 use Rattle.route_minimization.specs.Attempting.{Attempting}
 
 -- ---- an attempt of a round

@@ -8,7 +8,7 @@ ghost use Rattle.plan.specs.Plan.{split};
 ghost use Rattle.local_search.specs.Rounds.{reduce};
 ghost use Rattle.local_search.specs.Search.{Answers};
 ghost use Rattle.route_minimization.specs.Minimize.{attempt, minimize-routes};
-ghost use Rattle.route_minimization.specs.Running.{allowance};
+ghost use Rattle.ejection_pool.specs.Running.{allowance};
 ghost use Rattle.route_minimization.specs.Minimizing.{Searching};
 use crate::round::begin;
 use crate::round::try_next;
@@ -21,7 +21,6 @@ use models::vehicle::Vehicle;
 use plan::order::Pick;
 
 pub mod attempt;
-pub mod pool;
 pub mod round;
 
 // Rounds of attempts, begun again from the shortest route as soon as one is accepted.

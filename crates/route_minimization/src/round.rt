@@ -10,7 +10,7 @@ ghost use Rattle.local_search.specs.Route.{cost};
 ghost use Rattle.local_search.specs.Rounds.{try-each};
 ghost use Rattle.local_search.specs.Search.{but-last, tried-next, Next-leaves};
 ghost use Rattle.route_minimization.specs.Minimize.{attempt};
-ghost use Rattle.route_minimization.specs.Running.{allowance};
+ghost use Rattle.ejection_pool.specs.Running.{allowance};
 ghost use Rattle.route_minimization.specs.Attempting.{Attempting};
 use crate::attempt::Attempted;
 use crate::attempt::attempt;

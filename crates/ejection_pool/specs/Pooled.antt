@@ -19,9 +19,9 @@ use Rattle.local_search.specs.Planned.{Planned}
 use Rattle.local_search.specs.Rounds.{Tried}
 use Rattle.perturbation.specs.Moves.{perturb-draws}
 use Rattle.ejection.specs.Eject.{make-room}
-use Rattle.route_minimization.specs.Minimize.{Allowance, State, Turn, stop, more, turn}
-use Rattle.route_minimization.specs.Turns.{Then, turn-rule}
-use Rattle.route_minimization.specs.Minimized.{Placing, turn-placing}
+use Rattle.ejection_pool.specs.Pool.{Allowance, State, Turn, stop, more, turn}
+use Rattle.ejection_pool.specs.Turns.{Then, turn-rule}
+use Rattle.ejection_pool.specs.Placing.{Placing, turn-placing}
 
 -- n stops in plan and pool together, with `left` steps to the limit
 pub record Pooled (p : Problem) (n left : ℕ) (s : State) : Type 0 where

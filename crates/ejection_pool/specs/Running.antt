@@ -16,12 +16,12 @@ use Rattle.local_search.specs.Rounds.{Tried}
 use Rattle.local_search.specs.Planned.{Planned}
 use Rattle.ejection.specs.Asked.{Counted}
 use Rattle.ejection.specs.Made.{stack}
-use Rattle.route_minimization.specs.declared.pool.Emptied.{Emptied}
-use Rattle.route_minimization.specs.declared.pool.Emptied.the-variants.{Failed, Done}
-use Rattle.route_minimization.specs.declared.pool.Turn.{Turn as Ended}
-use Rattle.route_minimization.specs.declared.pool.Turn.the-variants.{Stuck, More}
-use Rattle.route_minimization.specs.Minimize.{Allowance, State, Turn, stop, more, failed}
-use Rattle.route_minimization.specs.Pooled.{Pooled}
+use Rattle.ejection_pool.specs.declared.Emptied.{Emptied}
+use Rattle.ejection_pool.specs.declared.Emptied.the-variants.{Failed, Done}
+use Rattle.ejection_pool.specs.declared.Turn.{Turn as Ended}
+use Rattle.ejection_pool.specs.declared.Turn.the-variants.{Stuck, More}
+use Rattle.ejection_pool.specs.Pool.{Allowance, State, Turn, stop, more, failed}
+use Rattle.ejection_pool.specs.Pooled.{Pooled}
 
 -- the plan in its two slices, the pool in its first cells
 abbrev pub state : List ℕ → List ℕ → List ℕ → ℕ → List ℕ → Counts → State

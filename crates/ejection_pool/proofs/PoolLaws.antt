@@ -30,10 +30,10 @@ use Rattle.ejection.specs.Eject.{eject, ejected, make-room, gone, chosen as eje
 use Rattle.ejection.specs.Ejected.{Inside, Ejects, eject-found}
 use Rattle.ejection.specs.Made.{stack, Made}
 use Rattle.perturbation.specs.Perturb.{Drawn, perturb}
-use Rattle.route_minimization.specs.declared.pool.Turn.the-variants.{Stuck, More}
-use Rattle.route_minimization.specs.Minimize.{after-eject}
-use Rattle.route_minimization.specs.Minimized.{Placing, eject-keeps}
-use Rattle.route_minimization.specs.Running.{Forcing, is-there, put-best, one-more, as-turn}
+use Rattle.ejection_pool.specs.declared.Turn.the-variants.{Stuck, More}
+use Rattle.ejection_pool.specs.Pool.{after-eject}
+use Rattle.ejection_pool.specs.Placing.{Placing, eject-keeps}
+use Rattle.ejection_pool.specs.Running.{Forcing, is-there, put-best, one-more, as-turn}
 
 -- ---- the cheapest place
 

@@ -21,11 +21,11 @@ use Rattle.insertion.specs.Cheapest.{cheapest}
 use Rattle.ejection.specs.Asked.{Counted}
 use Rattle.ejection.specs.Eject.{eject}
 use Rattle.ejection.specs.Made.{stack, stack-pop}
-use Rattle.route_minimization.specs.declared.pool.Turn.the-variants.{Stuck, More}
-use Rattle.route_minimization.specs.Minimize.{State, Turn, after-cheapest, after-eject}
-use Rattle.route_minimization.specs.Pooled.{Pooled, pooled-planned, raised}
-use Rattle.route_minimization.specs.Running.{Running, Forcing, state, is-there, put-best, one-more, as-turn}
-use Rattle.route_minimization.proofs.PoolLaws.{stack-length, held-number}
+use Rattle.ejection_pool.specs.declared.Turn.the-variants.{Stuck, More}
+use Rattle.ejection_pool.specs.Pool.{State, Turn, after-cheapest, after-eject}
+use Rattle.ejection_pool.specs.Pooled.{Pooled, pooled-planned, raised}
+use Rattle.ejection_pool.specs.Running.{Running, Forcing, state, is-there, put-best, one-more, as-turn}
+use Rattle.ejection_pool.proofs.PoolLaws.{stack-length, held-number}
 
 -- ---- the stop on top
 

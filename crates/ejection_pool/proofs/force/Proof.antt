@@ -1,11 +1,11 @@
--- `pool::force` meets its contract.
+-- `force` meets its contract.
 use mathlib.Core.Path.{refl}
 use Rattle.local_search.specs.Planned.{planned-stops}
-use Rattle.route_minimization.proofs.PoolLaws.{leaves-inside, room-lent, room-planned, forced, forced-lent, stuck}
+use Rattle.ejection_pool.proofs.PoolLaws.{leaves-inside, room-lent, room-planned, forced, forced-lent, stuck}
 use native.Mathlib.Omega.{arith}
 use borrow.Author.Needs.{needs}
-use Rattle.route_minimization.proofs.pool.force.Statement.{statement}
-use Rattle.route_minimization.proofs.pool.force.Tie as tie
+use Rattle.ejection_pool.proofs.force.Statement.{statement}
+use Rattle.ejection_pool.proofs.force.Tie as tie
 
 eject-requires : tie.Need-eject-requires
 eject-requires c κs =

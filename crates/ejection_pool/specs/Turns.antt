@@ -18,7 +18,7 @@ use Rattle.insertion.specs.Cheapest.{cheapest}
 use Rattle.ejection.specs.declared.Ejection.{Ejection}
 use Rattle.ejection.specs.Eject.{eject, make-room, gone}
 use Rattle.perturbation.specs.Perturb.{perturb}
-use Rattle.route_minimization.specs.Minimize.{Allowance, State, Turn, stop, more, failed, counted, after-eject, after-cheapest, turn, turned, at-limit, run-pool}
+use Rattle.ejection_pool.specs.Pool.{Allowance, State, Turn, stop, more, failed, counted, after-eject, after-cheapest, turn, turned, at-limit, run-pool}
 
 -- what must hold after a turn: O of what it stops with, or I of the state that it goes on with
 abbrev pub Then : (State → Type 0) → (Tried → Type 0) → Turn → Type 0

@@ -15,13 +15,13 @@ use Rattle.local_search.specs.declared.rounds.Counts.{Counts}
 use Rattle.local_search.specs.Rounds.{Tried}
 use Rattle.insertion.specs.Cheapest.{cheapest}
 use Rattle.ejection.specs.Made.{stack, stack-pop}
-use Rattle.route_minimization.specs.declared.pool.Turn.{Turn as Ended}
-use Rattle.route_minimization.specs.declared.pool.Turn.the-variants.{Stuck, More}
-use Rattle.route_minimization.specs.declared.pool.Emptied.the-variants.{Failed, Done}
-use Rattle.route_minimization.specs.Minimize.{Allowance, State, Turn, stop, more, failed, turn, after-cheapest, at-limit, run-pool}
-use Rattle.route_minimization.specs.Turns.{pool-more, pool-stop}
-use Rattle.route_minimization.specs.Pooled.{Pooled, pooled-fewer, pooled-more}
-use Rattle.route_minimization.specs.Running.{Running, state, allowance, as-turn, said}
+use Rattle.ejection_pool.specs.declared.Turn.{Turn as Ended}
+use Rattle.ejection_pool.specs.declared.Turn.the-variants.{Stuck, More}
+use Rattle.ejection_pool.specs.declared.Emptied.the-variants.{Failed, Done}
+use Rattle.ejection_pool.specs.Pool.{Allowance, State, Turn, stop, more, failed, turn, after-cheapest, at-limit, run-pool}
+use Rattle.ejection_pool.specs.Turns.{pool-more, pool-stop}
+use Rattle.ejection_pool.specs.Pooled.{Pooled, pooled-fewer, pooled-more}
+use Rattle.ejection_pool.specs.Running.{Running, state, allowance, as-turn, said}
 
 -- ---- the ways that the loop ends, on the definition
 
