@@ -9,7 +9,7 @@ use lib.ListN.{length, take, drop}
 use Rattle.models.specs.Problem.{Problem, Admitted}
 use Rattle.plan.specs.declared.order.Pick.{Pick}
 use Rattle.plan.specs.declared.order.Pick.the-variants.{At}
-use Rattle.plan.specs.Plan.{Plan, Lent, split, total}
+use Rattle.plan.specs.Plan.{Plan, split, total}
 use Rattle.plan.specs.Order.{next-pick, following}
 use Rattle.local_search.specs.Options.{then-some}
 use Rattle.local_search.specs.Feasible.{constrained}
@@ -24,7 +24,7 @@ use Rattle.local_search.proofs.NextLaws.{pick-there, next-kept, next-refused, n
 use Rattle.local_search.proofs.SearchLaws.{Rounding, Trying, trying-whole, trying-few, trying-routes-few, trying-planned, refused, taken, after-kept, after-accepted}
 use Rattle.reinsertion.specs.Candidates.{soft}
 use Rattle.route_elimination.specs.Eliminate.{without-route, attempt, eliminate-routes}
-use Rattle.route_elimination.specs.Attempts.{Attempted, fewer, Accepted, Left}
+use Rattle.route_elimination.specs.Attempts.{Attempted, fewer, Left}
 use Rattle.route_elimination.specs.Eliminating.{Eliminating}
 use Rattle.route_elimination.specs.Eliminated.{attempt-reduces}
 

@@ -1,6 +1,6 @@
 -- The stops of a route moved one after the other: what the code keeps between them, and that the place found lies in the plan and does not
 -- reach the cut. Assumes nothing.
-use Prim.Native.Nat.{ℕ, suc, _+_, _-_, _≤_}
+use Prim.Native.Nat.{ℕ, suc, _+_, _≤_}
 use native.Mathlib.Omega.{arith}
 use mathlib.Core.Path.{_≡_, refl, sym, ap, _∙_, subst}
 use mathlib.Core.Bool.{Bool, false}

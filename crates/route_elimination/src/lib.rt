@@ -1,6 +1,5 @@
 // Route elimination: a route is emptied by inserting its stops into the others (local_search/route_elimination.rs).
 // The definitions and their laws are in specs/.
-ghost use mathlib.Core.Path.{_≡_};
 ghost use lib.ListN.{length};
 ghost use Rattle.models.specs.Problem.{problem};
 ghost use Rattle.plan.specs.Plan.{split};
