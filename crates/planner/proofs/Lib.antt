@@ -5,3 +5,9 @@ pub mod Demand3
 pub mod QuestionLaws
 -- refused and answered calls
 pub mod CallLaws
+-- the form of a list of calls
+pub mod FormLaws
+-- one call of a list, and how it is recorded
+pub mod RecordLaws
+-- the run of a list
+pub mod RunLaws

@@ -5,6 +5,10 @@ pub mod Calls
 pub mod Told
 -- lists of calls, and the claim about them
 pub mod Run
+-- lists of calls in code
+pub mod Lists
+-- one call of such a list
+pub mod Listing
 -- every definition, opened for theorems by computation
 pub mod Opened
 -- the twelve cases
