@@ -1,19 +1,17 @@
 -- Judging the form of a list of calls: its words, the tape words that are left, and the size of the records. Assumes nothing.
-use Prim.Native.Nat.{ℕ, zero, suc, _+_, _*_, _-_, _/_, _%_, _≤_, _<_}
+use Prim.Native.Nat.{ℕ, suc, _+_, _*_, _-_, _/_, _%_, _≤_, _<_}
 use mathlib.Core.Path.{_≡_, refl, sym, ap, _∙_}
-use mathlib.Core.Bool.{Bool, true, false, cond, _&&_}
-use mathlib.Core.List.{List, [], _∷_, _++_, append-assoc}
+use mathlib.Core.Bool.{Bool, true, false, _&&_}
+use mathlib.Core.List.{List, _∷_}
 use native.Mathlib.Nat.{div-add-mod', mul-div-cancel, mul-mod-left, mul-zero, sub-zero}
 use native.Mathlib.Omega.{arith}
-use lib.ListN.{length, take, drop, getD, set, length-append, length-take}
-use lib.Seq.{paste, sets-eq, getD-drop, drop-drop, take-length, length-take-le}
+use lib.ListN.{length, drop, getD}
+use lib.Seq.{getD-drop, drop-drop}
 use lib.Dec.{eqb, leb}
 use borrow.Author.Tests.{eqb-true, eqb-false, eq-eqb, ne-eqb, le-leb, lt-leb}
-use Rattle.laws.specs.Lists.{paste-on}
 use Rattle.entry.specs.Table.{Work}
 use Rattle.planner.specs.declared.lists.Words.{Words}
-use Rattle.planner.specs.Told.{work-of}
-use Rattle.planner.specs.Lists.{words-first, words-of, call-passes, calls-pass, put}
+use Rattle.planner.specs.Lists.{words-first, words-of, call-passes, calls-pass}
 use Rattle.planner.specs.Listing.{words-at}
 
 -- ---- `is_product`

@@ -1,13 +1,11 @@
 -- What a call of a list is given and how it is recorded: the parts of the lent lists, and the values put into the records. Assumes nothing.
-use Prim.Native.Nat.{ℕ, zero, suc, _+_, _*_, _-_, _≤_, _<_}
-use mathlib.Core.Path.{_≡_, refl, sym, ap, _∙_}
-use mathlib.Core.Bool.{Bool, true, false, cond}
+use Prim.Native.Nat.{ℕ, suc, _+_, _*_, _-_, _≤_}
+use mathlib.Core.Path.{_≡_, sym, ap, _∙_}
 use mathlib.Core.List.{List, [], _∷_, _++_, append-assoc}
 use native.Mathlib.Omega.{arith}
 use lib.ListN.{length, take, drop, set, length-append}
 use lib.Seq.{paste, sets-eq, take-length, length-take-le}
 use lib.Ieee.{Float}
-use lib.Dec.{eqb}
 use borrow.Author.Tests.{eq-eqb, ne-eqb}
 use Rattle.laws.specs.Lists.{paste-on}
 use Rattle.models.specs.Problem.{Problem}
@@ -18,10 +16,10 @@ use Rattle.planner.specs.declared.calls.Replied.{Replied}
 use Rattle.planner.specs.declared.calls.Replied.the-variants.{Refused as NotReplied, Answered as RepliedAs}
 use Rattle.planner.specs.declared.lists.Words.{Words}
 use Rattle.planner.specs.Calls.{Reply, public-minimise, public-eliminate}
-use Rattle.planner.specs.Told.{replied-told, reply-of, slices-of, work-of}
+use Rattle.planner.specs.Told.{replied-told, reply-of, work-of}
 use Rattle.planner.specs.Run.{call}
 use Rattle.planner.specs.Lists.{Buffers, plan-slices, both-slices, call-of, answer-words, put}
-use Rattle.planner.specs.Listing.{words-at, Lent, Next, reply-at, Recorded}
+use Rattle.planner.specs.Listing.{words-at, Lent, reply-at, Recorded}
 
 -- ---- `run_call`: the parts that are lent have the numbers that the words say
 
@@ -34,7 +32,7 @@ module _ (p : Problem) (s : Slices) (w : Words) (from : ℕ) (tapes work : List 
 
   pub minimise-called : w .kind ≡ 0
       → r ≡ public-minimise p s (allowance (w .limit) (w .clock) (take (from + w .tape - from) (drop from tapes)))
-          (work-of (length (take (w .small) work)) (length (take (w .wide) cells)))
+      (work-of (length (take (w .small) work)) (length (take (w .wide) cells)))
       → r ≡ call p s (call-of w (drop from tapes))
   unfolding call
   minimise-called k e =
@@ -84,18 +82,18 @@ lent-same v e h = rw e h
 pub room-same : (i : ℕ) {l s m t size : ℕ} → m ≡ l → t ≡ s → i * (l + s) + (l + s) ≤ size → i * (m + t) + (m + t) ≤ size
 room-same i e f h = rw (e, f) h
 
-pub one-recorded : (i from : ℕ) (p : Problem) (calls tapes : List ℕ) (before after : Buffers) (w : Words) (a : Replied) → w ≡ words-at i calls
+pub one-recorded : (i from next : ℕ) (p : Problem) (calls tapes : List ℕ) (before after : Buffers) (w : Words) (a : Replied) → w ≡ words-at i calls
     → reply-of a (after .lengths) (after .stops) ≡ call p (plan-slices before) (call-of w (drop from tapes))
     → after .answers ≡ put (before .answers) (i * 4) (answer-words (replied-told a))
     → after .history ≡ put (before .history) (i * both-slices after) (after .lengths ++ after .stops)
-    → length (after .lengths) ≡ length (before .lengths) → length (after .stops) ≡ length (before .stops)
-    → Recorded i from (from + w .tape) p calls tapes before after
-one-recorded i from p calls tapes before after w a ew er ea eh kl ks =
+    → length (after .lengths) ≡ length (before .lengths) → length (after .stops) ≡ length (before .stops) → next ≡ from + w .tape
+    → Recorded i from next p calls tapes before after
+one-recorded i from next p calls tapes before after w a ew er ea eh kl ks en =
     let e : reply-of a (after .lengths) (after .stops) ≡ reply-at i from p calls tapes before =
     er ∙ ap (λ (v : Words). call p (plan-slices before) (call-of v (drop from tapes))) ew in
     record {
       slices = ap (λ (r : Reply). r .slices) e;
       answers = ea ∙ ap (λ (r : Reply). put (before .answers) (i * 4) (answer-words (r .answer))) e;
       history = eh ∙ rw (kl, ks);
-      tape = ap (λ (v : Words). from + v .tape) ew;
+      tape = en ∙ ap (λ (v : Words). from + v .tape) ew;
     }

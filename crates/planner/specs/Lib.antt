@@ -15,3 +15,5 @@ pub mod Opened
 pub mod Cases
 -- the table row by row
 pub mod Refusals
+-- lists of calls in words
+pub mod ListCases

@@ -11,10 +11,10 @@ ghost use Rattle.planner.specs.Run.{call};
 ghost use Rattle.planner.specs.Told.{replied-told, reply-of, slices-of, work-of};
 ghost use Rattle.planner.specs.Lists.{count-of, buffers, words-first, words-of, kind-passes, call-passes, calls-pass, call-of, well-formed, answer-words, put, All-run, Leaves};
 ghost use Rattle.planner.specs.Listing.{Lent, Next, Recorded};
-use cells::copy_part;
 use crate::calls::Replied;
 use crate::calls::eliminate;
 use crate::calls::minimise;
+use cells::copy_part;
 use models::vehicle::Vehicle;
 
 // The six words of a call: its kind (0 minimise, 1 eliminate), M, K, how many words its tape has, and how many u16 and f64 work cells it is lent.
@@ -35,6 +35,7 @@ pub enum Ran {
 
 // ---- the words
 
+// The words of call i.
 fn words_at(calls: &[u64], i: usize) -> Words
     requires { ⌜ i * 6 + 6 ≤ length (now calls) ⌝ }
     ensures { λ w. ⌜ w ≡ words-first (drop (i * 6) (now (calls .entry))) ⌝ }
@@ -50,13 +51,15 @@ fn words_at(calls: &[u64], i: usize) -> Words
     }
 }
 
+// Whether the kind is one of the two, and an eliminate has no M, K and tape.
 fn kind_passes(w: Words) -> bool
     ensures { λ r. ⌜ r ≡ kind-passes w ⌝ }
 {
-    if w.kind == 0 {
+    let kind = w.kind;
+    if kind == 0 {
         return true;
     }
-    if w.kind != 1 {
+    if kind != 1 {
         return false;
     }
     if w.limit != 0 {
@@ -68,7 +71,7 @@ fn kind_passes(w: Words) -> bool
     w.tape == 0
 }
 
-// Whether the words are those of a call, and it is lent no more work cells than there are.
+// Whether the words are a call's, and it is lent no more work cells than there are.
 fn call_passes(w: Words, small: usize, wide: usize) -> bool
     ensures { λ r. ⌜ r ≡ call-passes (work-of small wide) w ⌝ }
 {
@@ -81,7 +84,7 @@ fn call_passes(w: Words, small: usize, wide: usize) -> bool
     w.wide <= wide
 }
 
-// Whether each passes, and the tapes have so many words together.
+// Whether each call passes, and their tapes have so many words together.
 fn calls_pass(calls: &[u64], count: usize, tapes: usize, small: usize, wide: usize) -> bool
     requires { ⌜ length (now calls) ≡ count * 6 ⌝ }
     ensures { λ r. ⌜ r ≡ calls-pass (work-of small wide) (words-of count (now (calls .entry))) tapes ⌝ }
@@ -116,7 +119,7 @@ fn is_product(whole: usize, count: usize, part: usize) -> bool
     whole / part == count
 }
 
-// Whether the list can be run: the numbers that it names fit what is lent.
+// Whether the words are calls, and the numbers that they name fit what is lent.
 fn well_formed(
     lengths: &[u16],
     stops: &[u16],
@@ -211,6 +214,7 @@ fn run_call(
     )
 }
 
+// Four words from `at` on.
 fn put_words(answers: &mut [u64], at: usize, refusal: u64, routes: u64, steps: u64, draws: u64)
     requires { ⌜ at + 4 ≤ length (now answers) ⌝ }
     ensures { λ _. ⌜ now (answers .exit) ≡ put (now (answers .entry)) at (refusal ∷ routes ∷ steps ∷ draws ∷ []) ⌝ }
@@ -230,7 +234,14 @@ fn record_answer(answers: &mut [u64], i: usize, a: Replied)
         Replied::Refused(number) => put_words(answers, i * 4, number as u64, 0, 0, 0),
         Replied::Answered(done) => {
             let counts = done.counts;
-            put_words(answers, i * 4, 0, done.routes as u64, counts.steps, counts.draws)
+            put_words(
+                answers,
+                i * 4,
+                0,
+                done.routes as u64,
+                counts.steps,
+                counts.draws,
+            )
         }
     }
 }
@@ -328,8 +339,8 @@ fn run_all(
         (now (calls .entry)) (now (tapes .entry)) (buffers (now (lengths .entry)) (now (stops .entry)) (now (work .entry)) (now (cells .entry)) (now (answers .entry)) (now (history .entry))) (buffers (now (lengths .exit)) (now (stops .exit)) (now (work .exit)) (now (cells .exit)) (now (answers .exit)) (now (history .exit))) ⌝ }
 {
     let mut from: usize = 0;
-    let mut i: usize = 0;
-    while i < count {
+    let mut ran: usize = 0;
+    while ran < count {
         from = run_next(
             lengths,
             stops,
@@ -339,7 +350,7 @@ fn run_all(
             history,
             calls,
             tapes,
-            i,
+            ran,
             from,
             n,
             demand,
@@ -352,13 +363,13 @@ fn run_all(
             times,
             vehicle,
         );
-        i += 1;
+        ran += 1;
     }
 }
 
-// The calls that `calls` and `tapes` ask for, in order, over one problem and the plan in both slices. Six words a call: kind, M, K, how many of the tape
-// words are its own, and how many work cells of each kind it is lent. Its answer goes into four words of `answers`, both slices after it into `history`.
-// Where a number does not fit what is lent, the list is malformed and nothing is changed.
+// The calls that `calls` and `tapes` ask for, in order, over one problem and the plan in both slices. A call has six words (`Words`) of `calls` and as
+// many words of `tapes` as it says; it is lent the first cells of `work` and `cells`. Its answer goes into four words of `answers`: the number of the
+// refusal or 0, routes, steps, draws; both slices after it go into `history`. All lengths must fit; where they do not, nothing is changed.
 pub fn run_calls(
     lengths: &mut [u16],
     stops: &mut [u16],

@@ -1,37 +1,28 @@
-use Rattle.planner.proofs.RecordLaws.{put-both}
+-- `lists::record_slices` meets its contract.
 use native.Mathlib.Omega.{arith}
 use borrow.Author.Needs.{needs}
+use Rattle.planner.proofs.RecordLaws.{put-both}
 use Rattle.planner.proofs.lists.record_slices.Statement.{statement}
 use Rattle.planner.proofs.lists.record_slices.Tie as tie
-use Rattle.planner.proofs.lists.record_slices.Reads as reads
-use Rattle.planner.proofs.lists.record_slices.Lts as lts
-use Rattle.cells.proofs.copy_part.Reads as copy-part-reads
 
--- src/lists.rt:243:19
 add-at : tie.Need-add-at
 add-at c = search needs
 
--- src/lists.rt:243:14
 mul-at : tie.Need-mul-at
 mul-at c = search needs
 
--- src/lists.rt:244:5
 copy-part-requires : tie.Need-copy-part-requires
 copy-part-requires c κs = search needs
 
--- src/lists.rt:245:24
 add-copy-part : tie.Need-add-copy-part
 add-copy-part c = search needs
 
--- src/lists.rt:245:5
 copy-part-requires-2 : tie.Need-copy-part-requires-2
 copy-part-requires-2 c κs = search needs
 
--- src/lists.rt:239:1
 same-length : tie.Need-same-length
 same-length c = search needs
 
--- src/lists.rt:239:1
 returns : tie.Need-returns
 returns c = put-both (c .before .before .before .before .before .before .before .before .before .before .before .args .history .now) (c .before .before .before .before .before .before .before .before .before .before .before .args .lengths .now) (c .before .before .before .before .before .before .before .before .before .before .before .args .stops .now) _ (omega (arith, c .before .before .before .before .before .before .before .before .before .before .before .pre)) (c .before .before .before .before .before .before .copy-part .ensures) (c .before .before .copy-part2 .ensures)
 

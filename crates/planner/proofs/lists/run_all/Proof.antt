@@ -1,66 +1,57 @@
-use borrow.Author.Needs.{needs}
+-- `lists::run_all` meets its contract.
+use Prim.Native.Nat.{_-_}
 use native.Mathlib.Omega.{arith}
+use Rattle.models.specs.Problem.{problem}
+use Rattle.planner.specs.Lists.{buffers}
+use Rattle.planner.proofs.RunLaws.{Running, running-start, running-next, running-more, running-end}
 use Rattle.planner.proofs.lists.run_all.Statement.{statement}
 use Rattle.planner.proofs.lists.run_all.Tie as tie
-use Rattle.planner.proofs.lists.run_all.Reads as reads
-use Rattle.planner.proofs.lists.run_all.Lts as lts
-use Rattle.planner.proofs.lists.run_next.Reads as run-next-reads
 
 abbrev Inv-loop : tie.InvT-loop
-Inv-loop lengths₀ stops₀ work₀ cells₀ answers₀ history₀ calls tapes count n demand service ready due penalty flags distances times vehicle from₀ i₀ lengths stops work cells answers history from i =
-    ?
+Inv-loop lengths₀ stops₀ work₀ cells₀ answers₀ history₀ calls tapes count n demand service ready due penalty flags distances times vehicle from₀ ran₀ lengths stops work cells answers history from ran =
+    Running (problem n demand service ready due penalty flags distances times vehicle) calls tapes (buffers lengths₀ stops₀ work₀ cells₀ answers₀ history₀) count
+    (buffers lengths stops work cells answers history) from ran
 
 abbrev μ-loop : tie.MeasureT-loop
-μ-loop lengths₀ stops₀ work₀ cells₀ answers₀ history₀ calls tapes count n demand service ready due penalty flags distances times vehicle from₀ i₀ lengths stops work cells answers history from i =
-    ?
+μ-loop lengths₀ stops₀ work₀ cells₀ answers₀ history₀ calls tapes count n demand service ready due penalty flags distances times vehicle from₀ ran₀ lengths stops work cells answers history from ran = count - ran
 
--- src/lists.rt:332:5
 loop-holds : tie.Need-loop-holds Inv-loop μ-loop
-loop-holds c = search needs
+loop-holds c = running-start _ _ _ _ _ (c .before .before .before .before .before .before .before .before .before .before .before .before .before .before .before .pre)
 
--- src/lists.rt:333:9
 run-next-requires : tie.Need-run-next-requires Inv-loop μ-loop
-run-next-requires c κs = search needs
+run-next-requires c κs = running-next _ _ _ _ _ _ _ _ (c .before .before .before .before .before .before .before .loop .inv) (omega (arith, c .before .before .before .before .before .before .loop-test .taken))
 
--- src/lists.rt:355:9
-add-i : tie.Need-add-i Inv-loop μ-loop
-add-i c = search needs
+add-ran : tie.Need-add-ran Inv-loop μ-loop
+add-ran c = omega (arith, c .before .before .before .before .before .before .before .before .before .before .before .before .before .before .before .before .before .before .before .loop-test .taken, c .before .before .before .before .before .before .before .before .before .before .before .before .before .before .before .before .before .before .before .before .before .before .before .before .before .before .before .before .before .before .before .before .before .before .before .before .fits)
 
--- src/lists.rt:332:5
 loop-less : tie.Need-loop-less Inv-loop μ-loop
-loop-less c = search needs
+loop-less c = omega (arith, c .before .before .before .before .before .before .before .before .before .before .before .before .before .before .before .before .before .before .before .loop-test .taken)
 
--- src/lists.rt:332:5
 loop-again : tie.Need-loop-again Inv-loop μ-loop
-loop-again c = search needs
+loop-again c = running-more _ _ _ _ _ _ _ _ (c .before .before .before .before .before .before .before .before .before .before .before .before .before .before .before .before .before .before .before .before .loop .inv) _ _ (c .before .before .before .before .before .before .before .before .before .before .before .before .run-next .ensures)
+    (record { lengths = c .before .before .before .before .before .before .before .before .before .before .before .before .run-next .kept .0; stops = c .before .before .before .before .before .before .before .before .before .before .before .before .run-next .kept .1 .0; work = c .before .before .before .before .before .before .before .before .before .before .before .before .run-next .kept .1 .1 .0; cells = c .before .before .before .before .before .before .before .before .before .before .before .before .run-next .kept .1 .1 .1 .0; answers = c .before .before .before .before .before .before .before .before .before .before .before .before .run-next .kept .1 .1 .1 .1 .0; history = c .before .before .before .before .before .before .before .before .before .before .before .before .run-next .kept .1 .1 .1 .1 .1 .0 })
+    (omega (arith, c .before .before .before .before .before .before .before .before .before .before .before .before .before .before .before .before .before .before .before .loop-test .taken))
 
--- src/lists.rt:304:1
 same-length : tie.Need-same-length Inv-loop μ-loop
-same-length c = search needs
+same-length c = c .before .loop .inv .as-long .lengths
 
--- src/lists.rt:304:1
 same-length-2 : tie.Need-same-length-2 Inv-loop μ-loop
-same-length-2 c = search needs
+same-length-2 c = c .before .loop .inv .as-long .stops
 
--- src/lists.rt:304:1
 same-length-3 : tie.Need-same-length-3 Inv-loop μ-loop
-same-length-3 c = search needs
+same-length-3 c = c .before .loop .inv .as-long .work
 
--- src/lists.rt:304:1
 same-length-4 : tie.Need-same-length-4 Inv-loop μ-loop
-same-length-4 c = search needs
+same-length-4 c = c .before .loop .inv .as-long .cells
 
--- src/lists.rt:304:1
 same-length-5 : tie.Need-same-length-5 Inv-loop μ-loop
-same-length-5 c = search needs
+same-length-5 c = c .before .loop .inv .as-long .answers
 
--- src/lists.rt:304:1
 same-length-6 : tie.Need-same-length-6 Inv-loop μ-loop
-same-length-6 c = search needs
+same-length-6 c = c .before .loop .inv .as-long .history
 
--- src/lists.rt:304:1
 returns : tie.Need-returns Inv-loop μ-loop
-returns c = search needs
+returns c = running-end _ _ _ _ _ _ _ _ (c .before .loop .inv) (c .before .before .before .before .before .before .before .before .before .before .before .before .before .before .before .before .before .pre) (omega (arith, c .loop-test .left))
 
 pub run-all-spec : {M : Type 1} → statement M
 run-all-spec =
@@ -70,7 +61,7 @@ run-all-spec =
     μ-loop
     loop-holds
     run-next-requires
-    add-i
+    add-ran
     loop-less
     loop-again
     same-length

@@ -1,112 +1,84 @@
+-- `lists::run_call` meets its contract.
 use mathlib.Core.Path.{sym}
-use lib.Seq.{length-take-le}
-use Rattle.planner.proofs.RecordLaws.{minimise-called, eliminate-called}
 use native.Mathlib.Omega.{arith}
 use borrow.Author.Needs.{needs}
+use lib.Seq.{length-take-le}
+use Rattle.planner.proofs.RecordLaws.{minimise-called, eliminate-called}
 use Rattle.planner.proofs.lists.run_call.Statement.{statement}
 use Rattle.planner.proofs.lists.run_call.Tie as tie
-use Rattle.planner.proofs.lists.run_call.Reads as reads
-use Rattle.planner.proofs.lists.run_call.Lts as lts
-use Rattle.planner.proofs.calls.eliminate.Reads as eliminate-reads
-use Rattle.planner.proofs.calls.minimise.Reads as minimise-reads
 
--- src/lists.rt:175:19
 add-end : tie.Need-add-end
 add-end c = search needs
 
--- src/lists.rt:179:13
 slice-relend-prefix-minimise : tie.Need-slice-relend-prefix-minimise
 slice-relend-prefix-minimise c = search needs
 
--- src/lists.rt:179:13
 slice-aggregate-minimise : tie.Need-slice-aggregate-minimise
 slice-aggregate-minimise c = sym (length-take-le _ (c .before .before .before .before .before .before .before .before .before .before .before .before .before .before .before .before .before .before .args .work .now) (c .before .before .before .before .before .before .before .before .before .before .before .before .before .before .before .before .before .before .pre .small))
 
--- src/lists.rt:180:13
 slice-relend-prefix-minimise-2 : tie.Need-slice-relend-prefix-minimise-2
 slice-relend-prefix-minimise-2 c = search needs
 
--- src/lists.rt:180:13
 slice-aggregate-minimise-2 : tie.Need-slice-aggregate-minimise-2
 slice-aggregate-minimise-2 c = sym (length-take-le _ (c .before .before .before .before .before .before .before .before .before .before .before .before .before .before .before .before .before .before .before .args .cells .now) (c .before .before .before .before .before .before .before .before .before .before .before .before .before .before .before .before .before .before .before .pre .wide))
 
--- src/lists.rt:181:13
 mul-minimise : tie.Need-mul-minimise
 mul-minimise c = search needs
 
--- src/lists.rt:181:13
 sub-minimise : tie.Need-sub-minimise
 sub-minimise c = search needs
 
--- src/lists.rt:181:13
 part-minimise-start : tie.Need-part-minimise-start
 part-minimise-start c = search needs
 
--- src/lists.rt:181:13
 part-minimise-end : tie.Need-part-minimise-end
 part-minimise-end c = search needs
 
--- src/lists.rt:176:9
 minimise-requires : tie.Need-minimise-requires
 minimise-requires c κs = search needs
 
--- src/lists.rt:176:9
 same-length : tie.Need-same-length
 same-length c = search needs
 
--- src/lists.rt:176:9
 same-length-2 : tie.Need-same-length-2
 same-length-2 c = search needs
 
--- src/lists.rt:176:9
 same-length-3 : tie.Need-same-length-3
 same-length-3 c = search needs
 
--- src/lists.rt:176:9
 same-length-4 : tie.Need-same-length-4
 same-length-4 c = search needs
 
--- src/lists.rt:176:9
 returns : tie.Need-returns
-returns c = minimise-called _ _ _ _ _ _ _ (c .before .before .before .before .before .before .before .before .before .before .before .before .before .before .before .before .before .before .before .before .before .before .before .before .before .before .before .before .before .pre) _ (c .before .before .before .before .before .before .before .before .before .before .before .before .before .before .before .if1 .taken) (c .before .before .before .before .before .before .before .before .minimise .ensures)
+returns c = minimise-called _ _ _ _ _ _ _ (c .before .before .before .before .before .before .before .before .before .before .before .before .before .before .before .before .before .before .before .before .before .before .before .before .before .before .before .before .before .pre) _ (omega (arith, c .before .before .before .before .before .before .before .before .before .before .before .before .before .before .before .if1 .taken)) (c .before .before .before .before .before .before .before .before .minimise .ensures)
 
--- src/lists.rt:199:9
 slice-relend-prefix-eliminate : tie.Need-slice-relend-prefix-eliminate
 slice-relend-prefix-eliminate c = search needs
 
--- src/lists.rt:199:9
 slice-aggregate-eliminate : tie.Need-slice-aggregate-eliminate
 slice-aggregate-eliminate c = sym (length-take-le _ (c .before .before .before .before .before .before .before .before .before .before .before .before .before .before .before .before .before .args .work .now) (c .before .before .before .before .before .before .before .before .before .before .before .before .before .before .before .before .before .pre .small))
 
--- src/lists.rt:200:9
 slice-reshare-prefix-eliminate : tie.Need-slice-reshare-prefix-eliminate
 slice-reshare-prefix-eliminate c = search needs
 
--- src/lists.rt:200:9
 slice-aggregate-eliminate-2 : tie.Need-slice-aggregate-eliminate-2
 slice-aggregate-eliminate-2 c = sym (length-take-le _ (c .before .before .before .before .before .before .before .before .before .before .before .before .before .before .before .before .before .before .args .cells .now) (c .before .before .before .before .before .before .before .before .before .before .before .before .before .before .before .before .before .before .pre .wide))
 
--- src/lists.rt:196:5
 eliminate-requires : tie.Need-eliminate-requires
 eliminate-requires c κs = search needs
 
--- src/lists.rt:148:1
 same-length-5 : tie.Need-same-length-5
 same-length-5 c = search needs
 
--- src/lists.rt:148:1
 same-length-6 : tie.Need-same-length-6
 same-length-6 c = search needs
 
--- src/lists.rt:148:1
 same-length-7 : tie.Need-same-length-7
 same-length-7 c = search needs
 
--- src/lists.rt:148:1
 same-length-8 : tie.Need-same-length-8
 same-length-8 c = search needs
 
--- src/lists.rt:148:1
 returns-2 : tie.Need-returns-2
 returns-2 c = eliminate-called _ _ _ _ _ _ _ (c .before .before .before .before .before .before .before .before .before .before .before .before .before .before .before .before .before .before .before .before .before .before .before .before .before .pre) _ (c .before .before .before .before .before .before .before .before .before .before .before .if1 .left) (c .before .before .before .before .before .before .eliminate .ensures)
 

@@ -1,73 +1,56 @@
+-- `lists::run_calls` meets its contract.
+use mathlib.Core.Path.{refl}
+use borrow.Author.Tests.{not-true, not-false}
 use borrow.Author.Needs.{needs}
-use native.Mathlib.Omega.{arith}
+use Rattle.laws.specs.Picks.{via}
 use Rattle.planner.proofs.lists.run_calls.Statement.{statement}
 use Rattle.planner.proofs.lists.run_calls.Tie as tie
-use Rattle.planner.proofs.lists.run_calls.Reads as reads
-use Rattle.planner.proofs.lists.run_calls.Lts as lts
-use Rattle.planner.proofs.lists.run_all.Reads as run-all-reads
-use Rattle.planner.proofs.lists.well_formed.Reads as well-formed-reads
 
--- src/lists.rt:386:9
 well-formed-requires : tie.Need-well-formed-requires
 well-formed-requires c κs = search needs
 
--- src/lists.rt:387:9
 same-length : tie.Need-same-length
 same-length c = search needs
 
--- src/lists.rt:387:9
 same-length-2 : tie.Need-same-length-2
 same-length-2 c = search needs
 
--- src/lists.rt:387:9
 same-length-3 : tie.Need-same-length-3
 same-length-3 c = search needs
 
--- src/lists.rt:387:9
 same-length-4 : tie.Need-same-length-4
 same-length-4 c = search needs
 
--- src/lists.rt:387:9
 same-length-5 : tie.Need-same-length-5
 same-length-5 c = search needs
 
--- src/lists.rt:387:9
 same-length-6 : tie.Need-same-length-6
 same-length-6 c = search needs
 
--- src/lists.rt:387:9
 returns : tie.Need-returns
-returns c = search needs
+returns c = record { malformed = via _ _ _ (c .before .well-formed .ensures) (not-true _ (c .if1 .taken)); same = refl }
 
--- src/lists.rt:390:5
 run-all-requires : tie.Need-run-all-requires
-run-all-requires c κs = search needs
+run-all-requires c κs = (refl, via _ _ _ (c .before .before .before .before .before .before .before .well-formed .ensures) (not-false _ (c .before .before .before .before .before .before .if1 .left)))
 
--- src/lists.rt:362:1
 same-length-7 : tie.Need-same-length-7
 same-length-7 c = search needs
 
--- src/lists.rt:362:1
 same-length-8 : tie.Need-same-length-8
 same-length-8 c = search needs
 
--- src/lists.rt:362:1
 same-length-9 : tie.Need-same-length-9
 same-length-9 c = search needs
 
--- src/lists.rt:362:1
 same-length-10 : tie.Need-same-length-10
 same-length-10 c = search needs
 
--- src/lists.rt:362:1
 same-length-11 : tie.Need-same-length-11
 same-length-11 c = search needs
 
--- src/lists.rt:362:1
 same-length-12 : tie.Need-same-length-12
 same-length-12 c = search needs
 
--- src/lists.rt:362:1
 returns-2 : tie.Need-returns-2
 returns-2 c = search needs
 

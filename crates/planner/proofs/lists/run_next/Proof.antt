@@ -1,62 +1,46 @@
-use Rattle.planner.proofs.RecordLaws.{lent-same, room-same, one-recorded}
+-- `lists::run_next` meets its contract.
+use mathlib.Core.Path.{refl}
 use native.Mathlib.Omega.{arith}
 use borrow.Author.Needs.{needs}
+use Rattle.planner.proofs.RecordLaws.{lent-same, room-same, one-recorded}
 use Rattle.planner.proofs.lists.run_next.Statement.{statement}
 use Rattle.planner.proofs.lists.run_next.Tie as tie
-use Rattle.planner.proofs.lists.run_next.Reads as reads
-use Rattle.planner.proofs.lists.run_next.Lts as lts
-use Rattle.planner.proofs.lists.record_answer.Reads as record-answer-reads
-use Rattle.planner.proofs.lists.record_slices.Reads as record-slices-reads
-use Rattle.planner.proofs.lists.run_call.Reads as run-call-reads
-use Rattle.planner.proofs.lists.words_at.Reads as words-at-reads
 
--- src/lists.rt:276:9
 words-at-requires : tie.Need-words-at-requires
 words-at-requires c κs = search needs
 
--- src/lists.rt:277:9
 run-call-requires : tie.Need-run-call-requires
 run-call-requires c κs = lent-same _ (c .before .before .before .before .words-at .ensures) (c .before .before .before .before .before .before .before .before .before .before .before .before .before .before .before .before .before .before .before .before .pre .lent)
 
--- src/lists.rt:296:5
 record-answer-requires : tie.Need-record-answer-requires
 record-answer-requires c κs = c .before .before .before .before .before .before .before .before .before .before .before .before .before .before .before .before .before .before .before .before .before .before .before .before .before .before .before .before .before .before .pre .answer
 
--- src/lists.rt:297:5
 record-slices-requires : tie.Need-record-slices-requires
 record-slices-requires c κs = room-same _ (c .before .before .before .before .before .before .before .before .before .before .before .before .before .before .before .run-call .kept .0) (c .before .before .before .before .before .before .before .before .before .before .before .before .before .before .before .run-call .kept .1 .0) (c .before .before .before .before .before .before .before .before .before .before .before .before .before .before .before .before .before .before .before .before .before .before .before .before .before .before .before .before .before .before .before .before .before .before .before .before .pre .slices)
 
--- src/lists.rt:298:5
 add-result : tie.Need-add-result
 add-result c = let l = lent-same _ (c .before .before .before .before .before .before .before .before .before .before .before .before .before .before .before .before .before .before .before .before .before .before .before .before .words-at .ensures) (c .before .before .before .before .before .before .before .before .before .before .before .before .before .before .before .before .before .before .before .before .before .before .before .before .before .before .before .before .before .before .before .before .before .before .before .before .before .before .before .before .pre .lent) in omega (arith, l .tape, c .before .before .before .before .before .before .before .before .before .before .before .before .before .before .before .before .before .before .before .before .before .before .before .before .before .before .before .before .before .before .before .before .before .before .before .before .before .before .before .before .good)
 
--- src/lists.rt:249:1
 same-length : tie.Need-same-length
 same-length c = search needs
 
--- src/lists.rt:249:1
 same-length-2 : tie.Need-same-length-2
 same-length-2 c = search needs
 
--- src/lists.rt:249:1
 same-length-3 : tie.Need-same-length-3
 same-length-3 c = search needs
 
--- src/lists.rt:249:1
 same-length-4 : tie.Need-same-length-4
 same-length-4 c = search needs
 
--- src/lists.rt:249:1
 same-length-5 : tie.Need-same-length-5
 same-length-5 c = search needs
 
--- src/lists.rt:249:1
 same-length-6 : tie.Need-same-length-6
 same-length-6 c = search needs
 
--- src/lists.rt:249:1
 returns : tie.Need-returns
-returns c = one-recorded _ _ _ _ _ _ _ _ (c .before .before .before .before .before .before .before .before .before .before .before .before .before .before .before .before .before .before .before .run-call .result) (c .before .before .before .before .before .before .before .before .before .before .before .before .before .before .before .before .before .before .before .before .before .before .before .before .words-at .ensures) (c .before .before .before .before .before .before .before .before .before .before .before .before .before .before .before .before .before .before .before .run-call .ensures) (c .before .before .before .before .before .before .before .before .before .record-answer .ensures) (c .before .before .before .record-slices .ensures) (c .before .before .before .before .before .before .before .before .before .before .before .before .before .before .before .before .before .before .before .run-call .kept .0) (c .before .before .before .before .before .before .before .before .before .before .before .before .before .before .before .before .before .before .before .run-call .kept .1 .0)
+returns c = one-recorded _ _ _ _ _ _ _ _ _ (c .before .before .before .before .before .before .before .before .before .before .before .before .before .before .before .before .before .before .before .run-call .result) (c .before .before .before .before .before .before .before .before .before .before .before .before .before .before .before .before .before .before .before .before .before .before .before .before .words-at .ensures) (c .before .before .before .before .before .before .before .before .before .before .before .before .before .before .before .before .before .before .before .run-call .ensures) (c .before .before .before .before .before .before .before .before .before .record-answer .ensures) (c .before .before .before .record-slices .ensures) (c .before .before .before .before .before .before .before .before .before .before .before .before .before .before .before .before .before .before .before .run-call .kept .0) (c .before .before .before .before .before .before .before .before .before .before .before .before .before .before .before .before .before .before .before .run-call .kept .1 .0) refl
 
 pub run-next-spec : {M : Type 1} → statement M
 run-next-spec =

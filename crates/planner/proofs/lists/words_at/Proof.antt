@@ -1,84 +1,63 @@
-use Rattle.planner.proofs.FormLaws.{words-read}
-use native.Mathlib.Omega.{arith}
+-- `lists::words_at` meets its contract.
 use borrow.Author.Needs.{needs}
+use Rattle.planner.proofs.FormLaws.{words-read}
 use Rattle.planner.proofs.lists.words_at.Statement.{statement}
 use Rattle.planner.proofs.lists.words_at.Tie as tie
-use Rattle.planner.proofs.lists.words_at.Reads as reads
-use Rattle.planner.proofs.lists.words_at.Lts as lts
 
--- src/lists.rt:42:14
 mul-at : tie.Need-mul-at
 mul-at c = search needs
 
--- src/lists.rt:44:15
 mul-t4 : tie.Need-mul-t4
 mul-t4 c = search needs
 
--- src/lists.rt:44:15
 shared-slice-read-t6 : tie.Need-shared-slice-read-t6
 shared-slice-read-t6 c = search needs
 
--- src/lists.rt:45:22
 add-t7 : tie.Need-add-t7
 add-t7 c = search needs
 
--- src/lists.rt:45:16
 mul-t8 : tie.Need-mul-t8
 mul-t8 c = search needs
 
--- src/lists.rt:45:16
 shared-slice-read-t10 : tie.Need-shared-slice-read-t10
 shared-slice-read-t10 c = search needs
 
--- src/lists.rt:46:22
 add-t11 : tie.Need-add-t11
 add-t11 c = search needs
 
--- src/lists.rt:46:16
 mul-t12 : tie.Need-mul-t12
 mul-t12 c = search needs
 
--- src/lists.rt:46:16
 shared-slice-read-t14 : tie.Need-shared-slice-read-t14
 shared-slice-read-t14 c = search needs
 
--- src/lists.rt:47:21
 add-t15 : tie.Need-add-t15
 add-t15 c = search needs
 
--- src/lists.rt:47:15
 mul-t16 : tie.Need-mul-t16
 mul-t16 c = search needs
 
--- src/lists.rt:47:15
 shared-slice-read-t18 : tie.Need-shared-slice-read-t18
 shared-slice-read-t18 c = search needs
 
--- src/lists.rt:48:22
 add-t20 : tie.Need-add-t20
 add-t20 c = search needs
 
--- src/lists.rt:48:16
 mul-t21 : tie.Need-mul-t21
 mul-t21 c = search needs
 
--- src/lists.rt:48:16
 shared-slice-read-t23 : tie.Need-shared-slice-read-t23
 shared-slice-read-t23 c = search needs
 
--- src/lists.rt:49:21
 add-t25 : tie.Need-add-t25
 add-t25 c = search needs
 
--- src/lists.rt:49:15
 mul-t26 : tie.Need-mul-t26
 mul-t26 c = search needs
 
--- src/lists.rt:49:15
 shared-slice-read-t28 : tie.Need-shared-slice-read-t28
 shared-slice-read-t28 c = search needs
 
--- src/lists.rt:38:1
 returns : tie.Need-returns
 returns c = search words-read
 
