@@ -12,7 +12,7 @@ use borrow.Author.Tests.{eqb-true, eqb-false, eq-eqb, ne-eqb, le-leb, lt-leb}
 use Rattle.entry.specs.Table.{Work}
 use Rattle.planner.specs.declared.lists.Words.{Words}
 use Rattle.planner.specs.Lists.{words-first, words-of, call-passes, calls-pass}
-use Rattle.planner.specs.Listing.{words-at}
+use Rattle.planner.specs.Recording.{words-at}
 
 -- ---- `is_product`
 

@@ -10,8 +10,8 @@ use borrow.Author.Tests.{eq-eqb, ne-eqb}
 use Rattle.laws.specs.Lists.{paste-on}
 use Rattle.models.specs.Problem.{Problem}
 use Rattle.plan.specs.Plan.{Slices}
-use Rattle.route_minimization.specs.Running.{allowance}
-use Rattle.planner.specs.declared.calls.Done.{Done}
+use Rattle.local_search.specs.declared.rounds.Reduction.{Reduction}
+use Rattle.ejection_pool.specs.Running.{allowance}
 use Rattle.planner.specs.declared.calls.Replied.{Replied}
 use Rattle.planner.specs.declared.calls.Replied.the-variants.{Refused as NotReplied, Answered as RepliedAs}
 use Rattle.planner.specs.declared.lists.Words.{Words}
@@ -19,7 +19,7 @@ use Rattle.planner.specs.Calls.{Reply, public-minimise, public-eliminate
 use Rattle.planner.specs.Told.{replied-told, reply-of, work-of}
 use Rattle.planner.specs.Run.{call}
 use Rattle.planner.specs.Lists.{Buffers, plan-slices, both-slices, call-of, answer-words, put}
-use Rattle.planner.specs.Listing.{words-at, Lent, reply-at, Recorded}
+use Rattle.planner.specs.Recording.{words-at, Lent, reply-at, Recorded}
 
 -- ---- `run_call`: the parts that are lent have the numbers that the words say
 
@@ -70,7 +70,7 @@ module _ (xs ys : List ℕ) (at : ℕ) (a : Replied) where
   pub refused-put : (n : ℕ) → a ≡ NotReplied n → ys ≡ put xs at (n ∷ 0 ∷ 0 ∷ 0 ∷ []) → ys ≡ put xs at (answer-words (replied-told a))
   refused-put n e f = f ∙ ap (λ (b : Replied). put xs at (answer-words (replied-told b))) (sym e)
 
-  pub answered-put : (d : Done) → a ≡ RepliedAs d → ys ≡ put xs at (0 ∷ d .routes ∷ d .counts .steps ∷ d .counts .draws ∷ [])
+  pub answered-put : (d : Reduction) → a ≡ RepliedAs d → ys ≡ put xs at (0 ∷ d .routes ∷ d .counts .steps ∷ d .counts .draws ∷ [])
       → ys ≡ put xs at (answer-words (replied-told a))
   answered-put d e f = f ∙ ap (λ (b : Replied). put xs at (answer-words (replied-told b))) (sym e)
 

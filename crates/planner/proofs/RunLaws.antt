@@ -15,16 +15,16 @@ use Rattle.laws.specs.Loops.{cond-rule}
 use Rattle.laws.specs.Searches.{and-first, and-second}
 use Rattle.models.specs.Problem.{Problem}
 use Rattle.plan.specs.Plan.{Slices}
+use Rattle.local_search.specs.declared.rounds.Reduction.{Reduction}
 use Rattle.local_search.specs.Rounds.{Result}
 use Rattle.entry.specs.Table.{Work, Inputs, Row, table, first-applying, refusal}
 use Rattle.entry.specs.Given.{minimise-inputs, eliminate-inputs}
-use Rattle.planner.specs.declared.calls.Done.{Done}
 use Rattle.planner.specs.declared.lists.Words.{Words}
 use Rattle.planner.specs.Calls.{Answer, refused, answered, Reply, reply, public-minimise, public-eliminate}
 use Rattle.planner.specs.Told.{work-of}
 use Rattle.planner.specs.Run.{Call, minimise, eliminate, call, run, Claim}
 use Rattle.planner.specs.Lists.{Buffers, plan-slices, both-slices, words-first, words-of, call-of, decoded, count-of, calls-in, kind-passes, call-passes, calls-pass, well-formed, answer-words, answer-in, answer-row, slices-row, recorded, rows, put, last-slices, replies-in, All-run}
-use Rattle.planner.specs.Listing.{words-at, Next, reply-at, Recorded}
+use Rattle.planner.specs.Recording.{words-at, Next, reply-at, Recorded}
 use Rattle.planner.proofs.Demand3.{demand-3}
 use Rattle.planner.proofs.FormLaws.{words-more}
 
@@ -60,11 +60,11 @@ record Readable (l s : ℕ) (r : Reply) : Type 0 where
   stops-long : length (r .slices .stops) ≡ s
   number : (n : ℕ) → r .answer ≡ refused n → 0 < n
 
-length-answer : (a : Answer Done) → length (answer-words a) ≡ 4
+length-answer : (a : Answer Reduction) → length (answer-words a) ≡ 4
 length-answer (refused n) = refl
 length-answer (answered d) = refl
 
-answer-read : (a : Answer Done) (ws : List ℕ) → ((n : ℕ) → a ≡ refused n → 0 < n) → answer-in (answer-words a ++ ws) ≡ a
+answer-read : (a : Answer Reduction) (ws : List ℕ) → ((n : ℕ) → a ≡ refused n → 0 < n) → answer-in (answer-words a ++ ws) ≡ a
 answer-read (refused n) ws h = rw (ne-eqb n 0 (λ e. absurd (omega (arith, h n refl))))
 answer-read (answered d) ws h = refl
 

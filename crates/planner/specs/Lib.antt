@@ -7,8 +7,8 @@ pub mod Told
 pub mod Run
 -- lists of calls in code
 pub mod Lists
--- one call of such a list
-pub mod Listing
+-- one call of such a list, run and recorded
+pub mod Recording
 -- every definition, opened for theorems by computation
 pub mod Opened
 -- the twelve cases

@@ -9,8 +9,8 @@ use lib.Dec.{eqb, leb}
 use lib.Ieee.{Float}
 use Rattle.models.specs.Problem.{Problem}
 use Rattle.plan.specs.Plan.{Slices}
+use Rattle.local_search.specs.declared.rounds.Reduction.{Reduction}
 use Rattle.entry.specs.Table.{Work}
-use Rattle.planner.specs.declared.calls.Done.{Done}
 use Rattle.planner.specs.declared.lists.Words.{Words}
 use Rattle.planner.specs.declared.lists.Ran.{Ran}
 use Rattle.planner.specs.declared.lists.Ran.the-variants.{Malformed, Done as RanAll}
@@ -94,12 +94,12 @@ well-formed calls tapes b =
 -- ---- what is recorded
 
 -- the number of the refusal, or 0; then routes, steps and draws, 0 where the call is refused
-abbrev pub answer-words : Answer Done → List ℕ
+abbrev pub answer-words : Answer Reduction → List ℕ
 answer-words (refused n) = n ∷ 0 ∷ 0 ∷ 0 ∷ []
 answer-words (answered d) = 0 ∷ d .routes ∷ d .counts .steps ∷ d .counts .draws ∷ []
 
 -- those words read again
-abbrev pub answer-in : List ℕ → Answer Done
+abbrev pub answer-in : List ℕ → Answer Reduction
 answer-in ws =
     cond (eqb (getD ws 0 0) 0)
     (answered (record { routes = getD ws 1 0; counts = record { steps = getD ws 2 0; draws = getD ws 3 0 } }))

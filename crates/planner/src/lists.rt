@@ -10,7 +10,7 @@ ghost use Rattle.models.specs.Problem.{problem};
 ghost use Rattle.planner.specs.Run.{call};
 ghost use Rattle.planner.specs.Told.{replied-told, reply-of, slices-of, work-of};
 ghost use Rattle.planner.specs.Lists.{count-of, buffers, words-first, words-of, kind-passes, call-passes, calls-pass, call-of, well-formed, answer-words, put, All-run, Leaves};
-ghost use Rattle.planner.specs.Listing.{Lent, Next, Recorded};
+ghost use Rattle.planner.specs.Recording.{Lent, Next, Recorded};
 use crate::calls::Replied;
 use crate::calls::eliminate;
 use crate::calls::minimise;
