@@ -228,6 +228,10 @@ module _ (p : Problem) (calls tapes : List ℕ) (before : Buffers) (count : ℕ)
     row-room : (m : ℕ) → i < count → i * m + m ≤ count * m
     row-room m h = let g : i + 1 ≤ count = omega arith in let k : (i + 1) * m ≤ count * m = mul-le-mul-right m g in omega (arith, k, add-mul i 1 m, one-mul m)
 
+    -- so many words are lent
+    pub running-words : count * 6 ≡ length calls
+    running-words = sym (r .form .size)
+
     pub running-next : i < count → Next i from calls tapes after
     running-next h =
         let a = pass h in
@@ -270,19 +274,19 @@ module _ (p : Problem) (calls tapes : List ℕ) (before : Buffers) (count : ℕ)
       slices-long : length (now .lengths ++ now .stops) ≡ both-slices before
       slices-long = rw (length-append, k .lengths, k .stops, r .as-long .lengths, r .as-long .stops)
 
-      pub running-more : Running p calls tapes before count now next (i + 1)
+      pub running-more : (m : ℕ) → m ≡ i + 1 → Running p calls tapes before count now next m
       unfolding one
-      running-more =
+      running-more m e =
           let l = r .as-long in
           let a = pass h in
           let n = running-next h in
-          let m = both-slices before in
-          let room : i * m + m ≤ count * m = row-room m h in
-          let here : i * m ≤ length (after .history) = omega (arith, room, l .history, r .form .history-long) in
-          let next-row : (i + 1) * m ≡ i * m + length (now .lengths ++ now .stops) = rw slices-long (omega (arith, add-mul i 1 m, one-mul m)) in
-          let put-here : now .history ≡ put (after .history) (i * m) (now .lengths ++ now .stops) = rw (same-both) at (x .history) in
+          let b = both-slices before in
+          let room : i * b + b ≤ count * b = row-room b h in
+          let here : i * b ≤ length (after .history) = omega (arith, room, l .history, r .form .history-long) in
+          let next-row : (i + 1) * b ≡ i * b + length (now .lengths ++ now .stops) = rw slices-long (omega (arith, add-mul i 1 b, one-mul b)) in
+          let put-here : now .history ≡ put (after .history) (i * b) (now .lengths ++ now .stops) = rw (same-both) at (x .history) in
           let left : length tapes - next ≡ length tapes - from - words-at i calls .tape = omega (arith, x .tape) in
-          record {
+          rw e (record {
             within = omega arith;
             as-long = record {
               lengths = k .lengths ∙ l .lengths;
@@ -298,12 +302,12 @@ module _ (p : Problem) (calls tapes : List ℕ) (before : Buffers) (count : ℕ)
             by-run = r .by-run ∙ rw (left-is, append-assoc (r .done) (one ∷ []) (run p (plan-slices now) (calls-left count (i + 1) next calls tapes)));
             answers-so = rows-put answer-row (r .done) one (after .answers) (now .answers) _ (i * 4) ((i + 1) * 4) (x .answers) refl
                 (omega (arith, n .answer)) (rw (length-answer (one .answer)) (omega arith)) (r .answers-so);
-            history-so = rows-put slices-row (r .done) one (after .history) (now .history) _ (i * m) ((i + 1) * m) put-here slices-are here next-row (r .history-so);
+            history-so = rows-put slices-row (r .done) one (after .history) (now .history) _ (i * b) ((i + 1) * b) put-here slices-are here next-row (r .history-so);
             readable = all-append (r .readable) (all-cons one-readable all-nil);
             last = x .slices ∙ sym (last-more (plan-slices before) (r .done) one);
             tapes-left = omega (arith, n .lent .tape, x .tape);
             passes = rw left (a .others);
-          }
+          })
 
     nothing-left : i ≡ count → run p (plan-slices after) (calls-left count i from calls tapes) ≡ []
     unfolding run decoded words-of

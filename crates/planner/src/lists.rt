@@ -306,7 +306,8 @@ fn run_next(
     );
     record_answer(answers, i, a);
     record_slices(history, i, lengths, stops);
-    from + w.tape
+    let tape = w.tape;
+    from + tape
 }
 
 // ---- the list

@@ -3,7 +3,7 @@ use Prim.Native.Nat.{_-_}
 use native.Mathlib.Omega.{arith}
 use Rattle.models.specs.Problem.{problem}
 use Rattle.planner.specs.Lists.{buffers}
-use Rattle.planner.proofs.RunLaws.{Running, running-start, running-next, running-more, running-end}
+use Rattle.planner.proofs.RunLaws.{Running, running-start, running-words, running-next, running-more, running-end}
 use Rattle.planner.proofs.lists.run_all.Statement.{statement}
 use Rattle.planner.proofs.lists.run_all.Tie as tie
 
@@ -22,7 +22,7 @@ run-next-requires : tie.Need-run-next-requires Inv-loop μ-loop
 run-next-requires c κs = running-next _ _ _ _ _ _ _ _ (c .before .before .before .before .before .before .before .loop .inv) (omega (arith, c .before .before .before .before .before .before .loop-test .taken))
 
 add-ran : tie.Need-add-ran Inv-loop μ-loop
-add-ran c = omega (arith, c .before .before .before .before .before .before .before .before .before .before .before .before .before .before .before .before .before .before .before .loop-test .taken, c .before .before .before .before .before .before .before .before .before .before .before .before .before .before .before .before .before .before .before .before .before .before .before .before .before .before .before .before .before .before .before .before .before .before .before .before .fits)
+add-ran c = omega (arith, c .before .before .before .before .before .before .before .before .before .before .before .before .before .before .before .before .before .before .before .loop-test .taken, running-words _ _ _ _ _ _ _ _ (c .before .before .before .before .before .before .before .before .before .before .before .before .before .before .before .before .before .before .before .before .loop .inv), c .before .before .before .before .before .before .before .before .before .before .before .before .before .before .before .before .before .before .before .before .before .before .before .before .before .before .before .before .before .before .before .before .before .before .before .before .good)
 
 loop-less : tie.Need-loop-less Inv-loop μ-loop
 loop-less c = omega (arith, c .before .before .before .before .before .before .before .before .before .before .before .before .before .before .before .before .before .before .before .loop-test .taken)
@@ -31,6 +31,7 @@ loop-again : tie.Need-loop-again Inv-loop μ-loop
 loop-again c = running-more _ _ _ _ _ _ _ _ (c .before .before .before .before .before .before .before .before .before .before .before .before .before .before .before .before .before .before .before .before .loop .inv) _ _ (c .before .before .before .before .before .before .before .before .before .before .before .before .run-next .ensures)
     (record { lengths = c .before .before .before .before .before .before .before .before .before .before .before .before .run-next .kept .0; stops = c .before .before .before .before .before .before .before .before .before .before .before .before .run-next .kept .1 .0; work = c .before .before .before .before .before .before .before .before .before .before .before .before .run-next .kept .1 .1 .0; cells = c .before .before .before .before .before .before .before .before .before .before .before .before .run-next .kept .1 .1 .1 .0; answers = c .before .before .before .before .before .before .before .before .before .before .before .before .run-next .kept .1 .1 .1 .1 .0; history = c .before .before .before .before .before .before .before .before .before .before .before .before .run-next .kept .1 .1 .1 .1 .1 .0 })
     (omega (arith, c .before .before .before .before .before .before .before .before .before .before .before .before .before .before .before .before .before .before .before .loop-test .taken))
+    _ (omega arith)
 
 same-length : tie.Need-same-length Inv-loop μ-loop
 same-length c = c .before .loop .inv .as-long .lengths
