@@ -1,15 +1,17 @@
-//! The commands: a run of the comparison, one case in full, and cases with the original's answers.
+//! The commands: a run of the comparison, one case in full, and cases with the original's answers, for people and for the program replay.
 
 use comparison::model::Model;
 use comparison::original::Original;
 use comparison::problem::Side;
-use comparison::{answers, cases, generate, run, ORIGINAL};
+use comparison::{answers, cases, generate, replay, run, ORIGINAL};
 
 const USAGE: &str = "compare [COUNT] [SEED]           compares COUNT calls (20000) of SEED (1)
 compare --case CASE [PLACES]     prints the case of that number with every side's answers
 compare --answers N SEED [PLACES] [STEPS]
                                  prints N cases with the original's answers, of at most PLACES places (8) each,
-                                 and with at most STEPS steps (100) in a call";
+                                 and with at most STEPS steps (100) in a call
+compare --replay N SEED [PLACES] [STEPS]
+                                 prints N such cases, the twelve and some for every row, for the program replay";
 
 /// Runs the command that the words name, and returns its exit status.
 pub fn run(words: &[String]) -> i32 {
@@ -29,6 +31,9 @@ pub fn run(words: &[String]) -> i32 {
         ("--answers", [count, seed]) => print_answers(*count, *seed, 8, 100),
         ("--answers", [count, seed, places]) => print_answers(*count, *seed, *places as usize, 100),
         ("--answers", [count, seed, places, steps]) => print_answers(*count, *seed, *places as usize, *steps),
+        ("--replay", [count, seed]) => print_replay(*count, *seed, 8, 100),
+        ("--replay", [count, seed, places]) => print_replay(*count, *seed, *places as usize, 100),
+        ("--replay", [count, seed, places, steps]) => print_replay(*count, *seed, *places as usize, *steps),
         _ => wrong_usage(),
     }
 }
@@ -84,5 +89,13 @@ fn print_answers(count: u64, seed: u64, places: usize, steps: u64) -> i32 {
         return wrong_usage();
     }
     answers::print(&mut Original, count, seed, places, steps);
+    0
+}
+
+fn print_replay(count: u64, seed: u64, places: usize, steps: u64) -> i32 {
+    if places == 0 {
+        return wrong_usage();
+    }
+    replay::print(&mut Original, count, seed, places, steps);
     0
 }

@@ -19,6 +19,7 @@ pub mod model;
 pub mod original;
 pub mod problem;
 pub mod random;
+pub mod replay;
 pub mod run;
 mod stand_ins;
 

@@ -1,3 +1,5 @@
--- Laws of the stored values.
--- bits of floats and of signed numbers
+-- Laws of the readers.
+-- a count within a list
+pub mod Counting
+-- bits of floats
 pub mod ValueLaws

@@ -1,6 +1,6 @@
 // Slices in a text: a count, and that many numbers. A count over the room that is lent is a fault.
 ghost use Prim.Native.Nat.{_≤_};
-ghost use lib.ListN.{length};
+ghost use Rattle.stored.specs.Counts.{Counts};
 use crate::text::FAULT;
 use crate::text::number;
 use crate::text::number_to;
@@ -31,7 +31,7 @@ fn count_at(text: &[u8], at: usize, most: usize) -> Filled
 }
 
 pub fn read_u64(text: &[u8], at: usize, out: &mut [u64]) -> Filled
-    ensures { λ r. ⌜ r .count ≤ length (now (out .exit)) ⌝ }
+    ensures { λ r. ⌜ Counts (r .count) (now (out .exit)) ⌝ }
 {
     let room = count_at(text, at, out.len());
     let count = room.count;
@@ -47,7 +47,7 @@ pub fn read_u64(text: &[u8], at: usize, out: &mut [u64]) -> Filled
 }
 
 pub fn read_u16(text: &[u8], at: usize, out: &mut [u16]) -> Filled
-    ensures { λ r. ⌜ r .count ≤ length (now (out .exit)) ⌝ }
+    ensures { λ r. ⌜ Counts (r .count) (now (out .exit)) ⌝ }
 {
     let room = count_at(text, at, out.len());
     let count = room.count;
@@ -63,7 +63,7 @@ pub fn read_u16(text: &[u8], at: usize, out: &mut [u16]) -> Filled
 }
 
 pub fn read_u8(text: &[u8], at: usize, out: &mut [u8]) -> Filled
-    ensures { λ r. ⌜ r .count ≤ length (now (out .exit)) ⌝ }
+    ensures { λ r. ⌜ Counts (r .count) (now (out .exit)) ⌝ }
 {
     let room = count_at(text, at, out.len());
     let count = room.count;
@@ -79,7 +79,7 @@ pub fn read_u8(text: &[u8], at: usize, out: &mut [u8]) -> Filled
 }
 
 pub fn read_i32(text: &[u8], at: usize, out: &mut [i32]) -> Filled
-    ensures { λ r. ⌜ r .count ≤ length (now (out .exit)) ⌝ }
+    ensures { λ r. ⌜ Counts (r .count) (now (out .exit)) ⌝ }
 {
     let room = count_at(text, at, out.len());
     let count = room.count;
@@ -95,7 +95,7 @@ pub fn read_i32(text: &[u8], at: usize, out: &mut [i32]) -> Filled
 }
 
 pub fn read_f64(text: &[u8], at: usize, out: &mut [f64]) -> Filled
-    ensures { λ r. ⌜ r .count ≤ length (now (out .exit)) ⌝ }
+    ensures { λ r. ⌜ Counts (r .count) (now (out .exit)) ⌝ }
 {
     let room = count_at(text, at, out.len());
     let count = room.count;

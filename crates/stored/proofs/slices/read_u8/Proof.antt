@@ -2,7 +2,9 @@
 use Prim.Native.Nat.{_-_, _≤_}
 use mathlib.Core.Path.{_≡_}
 use lib.ListN.{length}
+use native.Mathlib.Omega.{arith}
 use borrow.Author.Needs.{needs}
+use Rattle.stored.proofs.Counting.{counts}
 use Rattle.stored.proofs.slices.read_u8.Statement.{statement}
 use Rattle.stored.proofs.slices.read_u8.Tie as tie
 
@@ -40,7 +42,7 @@ same-length : tie.Need-same-length Inv-loop μ-loop
 same-length c = search needs
 
 returns : tie.Need-returns Inv-loop μ-loop
-returns c = search needs
+returns c = counts _ _ (omega arith)
 
 pub read-u8-spec : {M : Type 1} → statement M
 read-u8-spec =
