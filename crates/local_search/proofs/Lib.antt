@@ -9,3 +9,7 @@ pub mod FeasibleLaws
 pub mod ReadLaws
 -- the rounds of attempts
 pub mod RoundLaws
+-- the start of a round, and its next attempt
+pub mod NextLaws
+-- the loops of a search
+pub mod SearchLaws

@@ -15,5 +15,7 @@ pub mod Planned
 pub mod RoundRules
 -- what an accepted attempt keeps, the rounds keep
 pub mod Reduced
+-- the search as the code makes it
+pub mod Search
 -- every definition, opened for theorems by computation
 pub mod Opened

@@ -1,7 +1,7 @@
 -- What an accepted attempt keeps, the rounds keep, whatever the attempt: the places, the number of routes, the kind of each route; and the
 -- steps of n routes are those of n (n + 1) / 2 attempts. The idea of the last: a round over n routes makes at most n attempts, and the next
 -- round has a route fewer. Assumes nothing.
-use Prim.Native.Nat.{ℕ, zero, suc, _+_, _*_, _≤_, _<_}
+use Prim.Native.Nat.{ℕ, zero, suc, _+_, _-_, _*_, _≤_, _<_}
 use mathlib.Core.Path.{_≡_, refl, _∙_, subst}
 use mathlib.Core.List.{List, [], _∷_}
 use mathlib.Core.Option.{Option, none, some}
@@ -14,7 +14,7 @@ use Rattle.laws.specs.Sorts.{range, smallest, sort-by, all-range, all-sort-by, 
 use Rattle.plan.specs.Plan.{Plan, lengths-of, non-empty, drop-empty, occurs}
 use Rattle.plan.specs.Order.{order}
 use Rattle.plan.specs.Dropped.{occurs-drop-empty}
-use Rattle.local_search.specs.Options.{Each, each-found}
+use Rattle.local_search.specs.Options.{Each, each-found, each-map}
 use Rattle.local_search.specs.declared.rounds.Counts.{Counts}
 use Rattle.local_search.specs.Rounds.{Tried, Result, Attempt, try-each, try-all, or-end, rounds, reduce}
 use Rattle.local_search.specs.RoundRules.{try-rule, rounds-rule}
@@ -30,6 +30,16 @@ pub record Bounded (b : ℕ) (n : Counts) : Type 0 where
   pub steps-in : n .steps ≤ b
   pub draws-in : n .draws ≤ 500 * n .steps
 
+-- what is asked of an attempt of at most m steps: where it is accepted the plan is better, and its counts are bounded
+pub record Reduces (attempt : Attempt) (m : ℕ) : Type 0 where
+  pub better : (routes : Plan) (r : ℕ) (n : Counts) → r < length routes → Each (Better (λ q. Unit) routes) (attempt routes r n .plan)
+  pub bounded : (b : ℕ) (routes : Plan) (r : ℕ) (n : Counts) → m + n .steps ≤ b → n .draws ≤ 500 * n .steps → Bounded b (attempt routes r n .counts)
+
+pub reduces-fewer : (attempt : Attempt) (m : ℕ) → Reduces attempt m → (routes : Plan) (r : ℕ) (n : Counts) → r < length routes
+    → Each (λ x. length x < length routes) (attempt routes r n .plan)
+reduces-fewer attempt m h routes r n r-in =
+    each-map (Better (λ q. Unit) routes) (λ x. length x < length routes) (attempt routes r n .plan) (λ x b. omega (arith, b .fewer)) (h .better routes r n r-in)
+
 -- 1 + 2 + .. + n
 unfoldable pub triangle : ℕ → ℕ
 triangle zero = 0
@@ -40,6 +50,13 @@ pub triangle-is : (n : ℕ) → 2 * triangle n ≡ n * (n + 1)
 unfolding triangle
 triangle-is zero = refl
 triangle-is (suc n) = omega (arith, triangle-is n, mul-add n n 2, suc-mul n (n + 2), mul-add n n 1)
+
+pub triangle-more : (n : ℕ) → triangle n ≡ n + triangle (n - 1)
+unfolding triangle
+triangle-more zero = refl
+triangle-more (suc n) =
+    let e : suc n - 1 ≡ n = omega arith in
+    rw e
 
 pub triangle-mono : (m n : ℕ) → m ≤ n → triangle m ≤ triangle n
 unfolding triangle

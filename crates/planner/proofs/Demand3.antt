@@ -21,7 +21,8 @@ use Rattle.local_search.specs.Feasible.{Sound}
 use Rattle.local_search.specs.RouteLaws.{feasible-sound}
 use Rattle.local_search.specs.Rounds.{Result}
 use Rattle.local_search.specs.Reduced.{triangle, triangle-is, triangle-mono}
-use Rattle.route_minimization.specs.Minimize.{Allowance, minimize-routes}
+use Rattle.ejection_pool.specs.Pool.{Allowance}
+use Rattle.route_minimization.specs.Minimize.{minimize-routes}
 use Rattle.route_minimization.specs.Minimized.{Minimized, minimize-keeps}
 use Rattle.route_minimization.specs.Falls.{minimize-falls}
 use Rattle.route_elimination.specs.Eliminate.{eliminate-routes}

@@ -17,9 +17,10 @@ use Rattle.evaluation.specs.Check.{route-feasible}
 use Rattle.evaluation.specs.Bound.{lateness-bound}
 use Rattle.plan.specs.Plan.{Plan, Slices, split, written}
 use Rattle.local_search.specs.Route.{route-distance, gain-floor}
-use Rattle.local_search.specs.declared.rounds.Counts.{Counts}
+use Rattle.local_search.specs.declared.rounds.Reduction.{Reduction}
 use Rattle.local_search.specs.Rounds.{Result}
-use Rattle.route_minimization.specs.Minimize.{Allowance, minimize-routes}
+use Rattle.ejection_pool.specs.Pool.{Allowance}
+use Rattle.route_minimization.specs.Minimize.{minimize-routes}
 use Rattle.route_elimination.specs.Eliminate.{eliminate-routes}
 use Rattle.entry.specs.Table.{Work, refusal}
 use Rattle.entry.specs.Given.{problem-inputs, route-inputs, schedule-inputs, minimise-inputs, eliminate-inputs}
@@ -69,14 +70,9 @@ public-time-window-new ready due = time-window-new ready due
 
 -- ---- the two calls that change a plan
 
--- "A call returns r"; "Results carry steps and draws."
-pub record Done : Type 0 where
-  pub routes : ℕ
-  pub counts : Counts
-
--- a call's answer, and both slices after it
+-- a call's answer ("A call returns r"; "Results carry steps and draws."), and both slices after it
 pub record Reply : Type 0 where
-  pub answer : Answer Done
+  pub answer : Answer Reduction
   pub slices : Slices
 
 -- the plan in two slices

@@ -5,9 +5,15 @@ pub mod Calls
 pub mod Told
 -- lists of calls, and the claim about them
 pub mod Run
+-- lists of calls in code
+pub mod Lists
+-- one call of such a list, run and recorded
+pub mod Recording
 -- every definition, opened for theorems by computation
 pub mod Opened
 -- the twelve cases
 pub mod Cases
 -- the table row by row
 pub mod Refusals
+-- lists of calls in words
+pub mod ListCases

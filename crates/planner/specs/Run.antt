@@ -13,10 +13,11 @@ use Rattle.plan.specs.Plan.{Plan, Slices, drop-empty, occurs}
 use Rattle.local_search.specs.Route.{cost}
 use Rattle.local_search.specs.Feasible.{Sound}
 use Rattle.local_search.specs.declared.rounds.Counts.{Counts}
-use Rattle.route_minimization.specs.Minimize.{Allowance}
+use Rattle.local_search.specs.declared.rounds.Reduction.{Reduction}
+use Rattle.ejection_pool.specs.Pool.{Allowance}
 use Rattle.entry.specs.Table.{Work}
 use Rattle.entry.specs.Given.{entry}
-use Rattle.planner.specs.Calls.{Answer, refused, answered, Done, Reply, plan-in, public-minimise, public-eliminate}
+use Rattle.planner.specs.Calls.{Answer, refused, answered, Reply, plan-in, public-minimise, public-eliminate}
 
 -- ---- calls
 
@@ -39,7 +40,7 @@ run p s (c ∷ cs) =
 
 -- ---- what is counted
 
-abbrev pub counts-of : Answer Done → Counts
+abbrev pub counts-of : Answer Reduction → Counts
 counts-of (refused n) = record { steps = 0; draws = 0 }
 counts-of (answered d) = d .counts
 
@@ -52,7 +53,7 @@ draws [] = 0
 draws (r ∷ rs) = counts-of (r .answer) .draws + draws rs
 
 -- the step limit of a minimise call that is accepted
-abbrev pub granted : Call → Answer Done → ℕ
+abbrev pub granted : Call → Answer Reduction → ℕ
 granted (minimise given w) (refused n) = 0
 granted (minimise given w) (answered d) = given .limit
 granted (eliminate w) a = 0

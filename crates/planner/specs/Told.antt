@@ -1,5 +1,7 @@
--- What the enums of the questions say, as answers of the public calls. Assumes nothing.
+-- What the enums of the code say, as answers of the public calls. Assumes nothing.
+use Prim.Native.Nat.{ℕ}
 use mathlib.Core.Bool.{Bool}
+use mathlib.Core.List.{List}
 use lib.Ieee.{Float}
 use Rattle.evaluation.specs.declared.eval.Eval.{Eval}
 use Rattle.planner.specs.declared.questions.Checked.{Checked}
@@ -8,7 +10,12 @@ use Rattle.planner.specs.declared.questions.Evaluated.{Evaluated}
 use Rattle.planner.specs.declared.questions.Evaluated.the-variants.{Refused as NotEvaluated, Answered as EvaluatedAs}
 use Rattle.planner.specs.declared.questions.Number.{Number}
 use Rattle.planner.specs.declared.questions.Number.the-variants.{Refused as NoNumber, Answered as NumberAs}
-use Rattle.planner.specs.Calls.{Answer, refused, answered}
+use Rattle.plan.specs.Plan.{Slices}
+use Rattle.local_search.specs.declared.rounds.Reduction.{Reduction}
+use Rattle.entry.specs.Table.{Work}
+use Rattle.planner.specs.declared.calls.Replied.{Replied}
+use Rattle.planner.specs.declared.calls.Replied.the-variants.{Refused as NotReplied, Answered as RepliedAs}
+use Rattle.planner.specs.Calls.{Answer, refused, answered, Reply}
 
 abbrev pub checked-told : Checked → Answer Bool
 checked-told (NotChecked n) = refused n
@@ -21,3 +28,20 @@ evaluated-told (EvaluatedAs e) = answered e
 abbrev pub number-told : Number → Answer Float
 number-told (NoNumber n) = refused n
 number-told (NumberAs x) = answered x
+
+abbrev pub replied-told : Replied → Answer Reduction
+replied-told (NotReplied n) = refused n
+replied-told (RepliedAs d) = answered d
+
+-- ---- the lent slices of a call
+
+abbrev pub slices-of : List ℕ → List ℕ → Slices
+slices-of lengths stops = record { lengths = lengths; stops = stops }
+
+-- the numbers of u16 and f64 work cells
+abbrev pub work-of : ℕ → ℕ → Work
+work-of small wide = record { u16-cells = small; f64-cells = wide }
+
+-- the answer, with both slices as the call leaves them
+abbrev pub reply-of : Replied → List ℕ → List ℕ → Reply
+reply-of a lengths stops = record { answer = replied-told a; slices = slices-of lengths stops }

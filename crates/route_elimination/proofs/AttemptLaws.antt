@@ -22,7 +22,8 @@ use Rattle.local_search.specs.Options.{bind, then-some}
 use Rattle.local_search.specs.Route.{gain-floor}
 use Rattle.local_search.specs.Planned.{planned-stops}
 use Rattle.local_search.proofs.VisitLaws.{Visiting, part-is}
-use Rattle.route_elimination.specs.Eliminate.{worth, Moved, moving, move-all, if-gained, without-route}
+use Rattle.reinsertion.specs.Candidates.{worth}
+use Rattle.route_elimination.specs.Eliminate.{Moved, moving, move-all, if-gained, without-route}
 use Rattle.route_elimination.specs.declared.moves.Sum.{Sum}
 use Rattle.route_elimination.specs.declared.moves.Sum.the-variants.{Nothing, At}
 use Rattle.route_elimination.specs.Largest.{in-order, moving-is}

@@ -22,14 +22,15 @@ use Rattle.local_search.specs.declared.route.Insertion.{Insertion}
 use Rattle.local_search.specs.declared.route.Best.{Best}
 use Rattle.local_search.specs.declared.route.Best.the-variants.{Nothing as Nowhere, At as Found}
 use Rattle.local_search.specs.Route.{chosen}
-use Rattle.route_elimination.specs.declared.place.Move.{Move}
+use Rattle.reinsertion.specs.declared.place.Move.{Move}
 use Rattle.route_elimination.specs.declared.moves.Sum.{Sum}
 use Rattle.route_elimination.specs.declared.moves.Sum.the-variants.{Nothing, At}
-use Rattle.route_elimination.specs.Eliminate.{Moved, candidates, by-cost, first-passing, move-stop, move-all}
-use Rattle.route_elimination.specs.Asked.{Asked, Room}
+use Rattle.reinsertion.specs.Candidates.{candidates, by-cost, first-passing}
+use Rattle.route_elimination.specs.Eliminate.{Moved, move-stop, move-all}
+use Rattle.reinsertion.specs.Asked.{Asked, Room}
 use Rattle.route_elimination.specs.Largest.{larger, first-largest, in-order, in-order-more}
 use Rattle.route_elimination.specs.Moves.{so-far, held-by, move-on, move-on-more, move-on-none, move-on-end, Waiting, Grown, Kept, place-inside, move-nowhere, move-there}
-use Rattle.route_elimination.proofs.WorthLaws.{trial-stops}
+use Rattle.reinsertion.proofs.WorthLaws.{trial-stops}
 
 -- ---- one stop
 

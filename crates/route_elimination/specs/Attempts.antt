@@ -12,7 +12,8 @@ use Rattle.plan.specs.Plan.{Plan, Lent, split, route, total}
 use Rattle.local_search.specs.Options.{bind}
 use Rattle.local_search.specs.Feasible.{constrained}
 use Rattle.local_search.specs.Planned.{Planned}
-use Rattle.route_elimination.specs.Eliminate.{soft, moving, move-all, if-gained}
+use Rattle.reinsertion.specs.Candidates.{soft}
+use Rattle.route_elimination.specs.Eliminate.{moving, move-all, if-gained}
 
 -- route r is to go from a plan
 pub record Attempted (p : Problem) (s needed : Bool) (lengths stops : List ℕ) (r : ℕ) : Type 0 where

@@ -20,14 +20,15 @@ use Rattle.models.specs.Problem.{Problem}
 use Rattle.plan.specs.Plan.{Plan, route, non-empty, drop-empty, occurs}
 use Rattle.plan.specs.Routes.{length-put-in, occurs-put-in, all-put-in, occurs-erase}
 use Rattle.plan.specs.Dropped.{occurs-drop-empty}
-use Rattle.local_search.specs.Options.{bind, Each, each-then-some, each-bind, each-map}
+use Rattle.local_search.specs.Options.{bind, Each, each-then-some, each-bind}
 use Rattle.local_search.specs.declared.route.Insertion.{Insertion}
 use Rattle.local_search.specs.Feasible.{has-room, checked, feasible}
 use Rattle.local_search.specs.RouteLaws.{has-room-fits}
 use Rattle.local_search.specs.declared.rounds.Counts.{Counts}
 use Rattle.local_search.specs.Rounds.{reduce}
-use Rattle.local_search.specs.Reduced.{Better, Bounded, triangle, Ended, reduce-ended}
-use Rattle.route_elimination.specs.Eliminate.{worth, positions, candidates-in, candidates, nowhere, trial, first-passing, Moved, move-to, move-stop, moving, move-all, if-gained, without-route, attempt, eliminate-routes}
+use Rattle.local_search.specs.Reduced.{Better, Reduces, reduces-fewer, triangle, Ended, reduce-ended}
+use Rattle.reinsertion.specs.Candidates.{worth, positions, candidates-in, candidates, nowhere, trial, first-passing}
+use Rattle.route_elimination.specs.Eliminate.{Moved, move-to, move-stop, moving, move-all, if-gained, without-route, attempt, eliminate-routes}
 
 -- ---- properties of lists that are made of others
 
@@ -123,12 +124,17 @@ module _ (p : Problem) (G : List ℕ → Type 0) (pass : (r : List ℕ) → feas
       })))
       (λ _. tt)
 
+-- the laws of the rounds speak of this search, which counts no steps
+pub attempt-reduces : (p : Problem) → Reduces (attempt p) 0
+unfolding attempt
+attempt-reduces p = record {
+  better = λ routes r n r-in. without-better p (λ q. Unit) (λ q _. tt) routes r r-in (all-of routes [] (λ i h. tt));
+  bounded = λ b routes r n l d. record { steps-in = omega arith; draws-in = d };
+}
+
 -- an accepted attempt leaves fewer routes, so `rounds-enough` speaks of this search: the bound on the rounds never cuts it short
 pub attempt-fewer : (p : Problem) (routes : Plan) (r : ℕ) (n : Counts) → r < length routes → Each (λ x. length x < length routes) (attempt p routes r n .plan)
-unfolding attempt
-attempt-fewer p routes r n r-in =
-    each-map (Better (λ q. Unit) routes) (λ x. length x < length routes) (without-route p routes r) (λ x b. omega (arith, b .fewer))
-    (without-better p (λ q. Unit) (λ q _. tt) routes r r-in (all-of routes [] (λ i h. tt)))
+attempt-fewer p = reduces-fewer (attempt p) 0 (attempt-reduces p)
 
 -- ---- the search
 
@@ -152,8 +158,5 @@ eliminate-keeps p G pass plan g =
     better : (routes : Plan) (r : ℕ) (n : Counts) → r < length routes → All G routes → Each (Better G routes) (attempt p routes r n .plan)
     better routes r n r-in a = without-better p G pass routes r r-in a
 
-    bounded : (b : ℕ) (routes : Plan) (r : ℕ) (n : Counts) → 0 + n .steps ≤ b → n .draws ≤ 500 * n .steps → Bounded b (attempt p routes r n .counts)
-    bounded b routes r n l d = record { steps-in = omega arith; draws-in = d }
-
-    e : Ended (attempt p) 0 G better bounded (drop-empty plan) (0 * triangle (length (drop-empty plan))) (reduce (attempt p) plan)
-    e = reduce-ended (attempt p) 0 G better bounded plan g
+    e : Ended (attempt p) 0 G better (attempt-reduces p .bounded) (drop-empty plan) (0 * triangle (length (drop-empty plan))) (reduce (attempt p) plan)
+    e = reduce-ended (attempt p) 0 G better (attempt-reduces p .bounded) plan g

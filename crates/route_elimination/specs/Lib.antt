@@ -1,16 +1,14 @@
 -- Route elimination. A file uses only files above it in this list.
 -- the attempt to move each stop of a route, and the search
 pub mod Eliminate
--- the place for a stop by one pass over routes and positions
-pub mod Place
--- what the code asks of a stop, a route and a plan
-pub mod Asked
 -- the stops that are moved, the largest demand first
 pub mod Largest
 -- the stops moved one after the other
 pub mod Moves
 -- what an attempt asks and leaves
 pub mod Attempts
+-- what the search asks for
+pub mod Eliminating
 -- what an attempt and the search keep
 pub mod Eliminated
 -- every definition, opened for theorems by computation

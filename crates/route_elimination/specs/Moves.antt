@@ -1,6 +1,6 @@
 -- The stops of a route moved one after the other: what the code keeps between them, and that the place found lies in the plan and does not
 -- reach the cut. Assumes nothing.
-use Prim.Native.Nat.{ℕ, suc, _+_, _-_, _≤_}
+use Prim.Native.Nat.{ℕ, suc, _+_, _≤_}
 use native.Mathlib.Omega.{arith}
 use mathlib.Core.Path.{_≡_, refl, sym, ap, _∙_, subst}
 use mathlib.Core.Bool.{Bool, false}
@@ -18,8 +18,9 @@ use Rattle.local_search.specs.declared.route.Insertion.{Insertion}
 use Rattle.local_search.specs.Feasible.{constrained, has-room}
 use Rattle.route_elimination.specs.declared.moves.Sum.{Sum}
 use Rattle.route_elimination.specs.declared.moves.Sum.the-variants.{Nothing, At}
-use Rattle.route_elimination.specs.Eliminate.{soft, insertion-worth, candidates, by-cost, first-passing, Moved, move-to, move-stop}
-use Rattle.route_elimination.specs.Place.{counts, comes-first, settles, look-at, look-through, look-over, unless-cut, place-is}
+use Rattle.reinsertion.specs.Candidates.{soft, insertion-worth, candidates, by-cost, first-passing}
+use Rattle.route_elimination.specs.Eliminate.{Moved, move-to, move-stop}
+use Rattle.reinsertion.specs.Place.{counts, comes-first, settles, look-at, look-through, look-over, unless-cut, place-is}
 
 -- the other routes so far, and what was added to their worth
 abbrev pub so-far : Plan → Float → Moved

@@ -1,7 +1,7 @@
 // The attempt to move the stops of a route into the others.
 ghost use mathlib.Core.Path.{_≡_};
 ghost use mathlib.Core.Bool.{true};
-ghost use mathlib.Core.List.{[], _∷_, _++_};
+ghost use mathlib.Core.List.{_++_};
 ghost use Prim.Native.Nat.{_+_, _-_, _<_, _≤_};
 ghost use lib.ListN.{length, getD, take, drop};
 ghost use Rattle.floats.specs.Binary64.{_⊕_};
@@ -9,13 +9,13 @@ ghost use Rattle.models.specs.Vehicle.{fixed-cost-in-distance};
 ghost use Rattle.models.specs.Problem.{problem};
 ghost use Rattle.plan.specs.Plan.{Lent, split, route, total};
 ghost use Rattle.local_search.specs.Options.{then-some};
-ghost use Rattle.route_elimination.specs.Eliminate.{worth, move-all, without-route};
+ghost use Rattle.reinsertion.specs.Candidates.{worth};
+ghost use Rattle.route_elimination.specs.Eliminate.{move-all, without-route};
 ghost use Rattle.route_elimination.specs.Largest.{in-order};
 ghost use Rattle.route_elimination.specs.Moves.{held-by, Waiting, Kept};
 ghost use Rattle.route_elimination.specs.Attempts.{Attempted, emptied, fewer, Accepted, Left};
 use crate::moves::Sum;
 use crate::moves::move_all;
-use crate::worth::worth;
 use cells::copy_part;
 use floats::is_finite;
 use local_search::route::gain_floor;
@@ -24,6 +24,7 @@ use plan::erase_route;
 use plan::offset;
 use plan::restore;
 use plan::save;
+use reinsertion::worth::worth;
 
 // What is saved where route r goes: its worth and its fixed cost.
 fn saved_by(

@@ -6,15 +6,15 @@ ghost use Rattle.laws.specs.Edits.{erase};
 ghost use Rattle.models.specs.Problem.{problem};
 ghost use Rattle.plan.specs.Plan.{split, total};
 ghost use Rattle.route_elimination.specs.Eliminate.{move-stop, move-all};
-ghost use Rattle.route_elimination.specs.Asked.{Asked, Room};
+ghost use Rattle.reinsertion.specs.Asked.{Asked, Room};
 ghost use Rattle.route_elimination.specs.Largest.{first-largest, in-order};
 ghost use Rattle.route_elimination.specs.Moves.{so-far, held-by, Waiting, Kept};
 use crate::largest::take_largest;
-use crate::place::Move;
-use crate::place::place;
 use local_search::route::Best;
 use models::vehicle::Vehicle;
 use plan::put_in;
+use reinsertion::place::Move;
+use reinsertion::place::place;
 
 // What was added to the worth of the other routes, or nothing once a stop has no place.
 pub enum Sum {

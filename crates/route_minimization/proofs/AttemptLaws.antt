@@ -25,17 +25,19 @@ use Rattle.local_search.specs.Options.{Each, each-found, bind, then-some}
 use Rattle.local_search.specs.Planned.{Planned, planned-stops}
 use Rattle.local_search.specs.Route.{cost}
 use Rattle.local_search.specs.Rounds.{Tried}
+use Rattle.local_search.specs.Search.{Ends-with-0, but-last}
 use Rattle.local_search.proofs.ReadLaws.{cost-any}
 use Rattle.ejection.specs.Made.{stack}
-use Rattle.route_minimization.specs.declared.pool.Emptied.{Emptied}
-use Rattle.route_minimization.specs.declared.pool.Emptied.the-variants.{Failed, Done}
+use Rattle.ejection_pool.specs.declared.Emptied.{Emptied}
+use Rattle.ejection_pool.specs.declared.Emptied.the-variants.{Failed, Done}
 use Rattle.route_minimization.specs.declared.attempt.Attempted.{Attempted}
 use Rattle.route_minimization.specs.declared.attempt.Attempted.the-variants.{Kept, Accepted}
-use Rattle.route_minimization.specs.Minimize.{Allowance, State, Turn, stop, more, turn, at-limit, run-pool, empty-into, if-cheaper, attempt}
-use Rattle.route_minimization.specs.Turns.{Then, turn-rule, pool-rule}
-use Rattle.route_minimization.specs.Pooled.{Pooled, pooled-planned, pooled-more}
-use Rattle.route_minimization.specs.Running.{Running, state, said}
-use Rattle.route_minimization.specs.Attempting.{Attempting, Ends-with-0, Leaves, tried, judged, but-last}
+use Rattle.ejection_pool.specs.Pool.{Allowance, State, Turn, stop, more, turn, at-limit, run-pool, empty-into}
+use Rattle.route_minimization.specs.Minimize.{if-cheaper, attempt}
+use Rattle.ejection_pool.specs.Turns.{Then, turn-rule, pool-rule}
+use Rattle.ejection_pool.specs.Pooled.{Pooled, pooled-planned, pooled-more}
+use Rattle.ejection_pool.specs.Running.{Running, state, said}
+use Rattle.route_minimization.specs.Attempting.{Attempting, Leaves, tried, judged}
 
 -- ---- the pool at the start
 

@@ -1,10 +1,4 @@
 -- What the functions' proofs lean on.
--- a stop placed, and one that goes in for others
-pub mod PoolLaws
--- a turn of the pool
-pub mod TurnLaws
--- the loop that empties the pool
-pub mod LoopLaws
 -- an attempt to empty a route
 pub mod AttemptLaws
 -- the next attempt of a round

@@ -1,19 +1,20 @@
 -- An attempt as the code makes it: what it asks for, what it answers, and what it leaves in the two slices. Assumes nothing.
-use Prim.Native.Nat.{ℕ, _+_, _-_, _*_, _≤_, _<_}
+use Prim.Native.Nat.{ℕ, _+_, _*_, _≤_, _<_}
 use mathlib.Core.Path.{_≡_}
 use mathlib.Core.Bool.{Bool}
-use mathlib.Core.List.{List, [], _∷_, _++_}
+use mathlib.Core.List.{List}
 use mathlib.Core.Option.{none, some}
-use lib.ListN.{length, take}
+use lib.ListN.{length}
 use lib.Ieee.{Float}
 use Rattle.models.specs.RouteLimits.{limits-of}
 use Rattle.models.specs.Problem.{Problem, Admitted}
 use Rattle.evaluation.specs.Check.{route-checks-needed}
-use Rattle.plan.specs.Plan.{Plan, Lent, split, total}
+use Rattle.plan.specs.Plan.{Plan, split, total}
 use Rattle.local_search.specs.Options.{bind}
 use Rattle.local_search.specs.declared.rounds.Counts.{Counts}
 use Rattle.local_search.specs.Planned.{Planned}
 use Rattle.local_search.specs.Rounds.{Tried}
+use Rattle.local_search.specs.Search.{Ends-with-0}
 use Rattle.route_minimization.specs.declared.attempt.Attempted.{Attempted}
 use Rattle.route_minimization.specs.declared.attempt.Attempted.the-variants.{Kept, Accepted}
 use Rattle.route_minimization.specs.Minimize.{if-cheaper}
@@ -39,14 +40,6 @@ tried (Accepted n) plan = record { plan = some plan; counts = n }
 -- the answer of an emptied pool, after the test of its cost
 abbrev pub judged : Problem → Float → Tried → Tried
 judged p before t = record { plan = bind (t .plan) (if-cheaper p before); counts = t .counts }
-
--- the lengths of a plan without a route: the last one is 0
-abbrev pub but-last : List ℕ → List ℕ
-but-last lengths = take (length lengths - 1) lengths
-
-pub record Ends-with-0 (lengths stops : List ℕ) : Type 0 where
-  pub zero-last : lengths ≡ but-last lengths ++ 0 ∷ []
-  pub lent : Lent (but-last lengths) stops
 
 -- the slices after an attempt: as they were, or with a length less in use
 abbrev pub Leaves : Attempted → List ℕ → List ℕ → List ℕ → List ℕ → Type 0

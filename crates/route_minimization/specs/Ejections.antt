@@ -13,7 +13,8 @@ use Rattle.models.specs.Problem.{Problem, problem}
 use Rattle.plan.specs.Plan.{Plan}
 use Rattle.local_search.specs.declared.rounds.Counts.{Counts}
 use Rattle.local_search.specs.Rounds.{Result}
-use Rattle.route_minimization.specs.Minimize.{Allowance, minimize-routes}
+use Rattle.ejection_pool.specs.Pool.{Allowance}
+use Rattle.route_minimization.specs.Minimize.{minimize-routes}
 use Rattle.route_minimization.specs.Opened.{opened}
 
 abbrev num : ℕ → Float

@@ -17,7 +17,8 @@ use Rattle.plan.specs.Plan.{Plan}
 use Rattle.local_search.specs.Feasible.{feasible}
 use Rattle.local_search.specs.declared.rounds.Counts.{Counts}
 use Rattle.quick_test.specs.Quick.{departures, latest-arrivals, may-fit}
-use Rattle.route_minimization.specs.Minimize.{Allowance, more, turn, empty-into, minimize-routes}
+use Rattle.ejection_pool.specs.Pool.{Allowance, more, turn, empty-into}
+use Rattle.route_minimization.specs.Minimize.{minimize-routes}
 use Rattle.route_minimization.specs.Opened.{opened}
 
 abbrev num : ℕ → Float

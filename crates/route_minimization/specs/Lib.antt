@@ -1,19 +1,11 @@
 -- Route minimisation with an ejection pool. A file uses only files above it in this list.
--- the attempt to empty a route, and the search
+-- the attempt at a route, and the search
 pub mod Minimize
--- the clock needs no counter
-pub mod Clock
--- every way that a turn can go, and a rule of proof for the attempt
-pub mod Turns
 -- what an attempt and the search keep
 pub mod Minimized
--- what the code asks of a state, and that a turn keeps it
-pub mod Pooled
--- the state as the code holds it
-pub mod Running
 -- an attempt as the code makes it
 pub mod Attempting
--- the search as the code makes it
+-- what the search asks for
 pub mod Minimizing
 -- the cost falls
 pub mod Falls

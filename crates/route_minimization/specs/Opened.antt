@@ -3,7 +3,8 @@ use Rattle.quick_test.specs.Quick.{served-at, departures-from, latest-arrival, 
 use Rattle.insertion.specs.Cheapest.{may-go-in, try-position, try-positions, try-route, cheapest}
 use Rattle.ejection.specs.Eject.{kept, ejected, failure-sum, try-in-kept, try-kept, try-left, try-out, try-one, try-two-from, try-two, eject-one, eject-two, eject, make-room}
 use Rattle.perturbation.specs.Opened.{opened as moves}
-use Rattle.route_minimization.specs.Minimize.{after-eject, after-cheapest, turn, turned, at-limit, run-pool, empty-into, if-cheaper, attempt, minimize-routes}
+use Rattle.ejection_pool.specs.Pool.{after-eject, after-cheapest, turn, turned, at-limit, run-pool, empty-into}
+use Rattle.route_minimization.specs.Minimize.{if-cheaper, attempt, minimize-routes}
 
 -- Every definition, for a theorem that is computed: `unfolding opened`.
 unfoldable pub opened : Unit {0}

@@ -6,27 +6,22 @@ ghost use Rattle.models.specs.Problem.{problem};
 ghost use Rattle.evaluation.specs.Check.{route-checks-needed};
 ghost use Rattle.plan.specs.Plan.{split};
 ghost use Rattle.local_search.specs.Rounds.{reduce};
+ghost use Rattle.local_search.specs.Search.{Answers};
 ghost use Rattle.route_minimization.specs.Minimize.{attempt, minimize-routes};
-ghost use Rattle.route_minimization.specs.Running.{allowance};
-ghost use Rattle.route_minimization.specs.Minimizing.{Searching, Answers};
-use crate::round::Next;
+ghost use Rattle.ejection_pool.specs.Running.{allowance};
+ghost use Rattle.route_minimization.specs.Minimizing.{Searching};
 use crate::round::begin;
 use crate::round::try_next;
 use evaluation::check::has_soft_windows;
 use local_search::feasible::constrained;
 use local_search::rounds::Counts;
+use local_search::rounds::Next;
+use local_search::rounds::Reduction;
 use models::vehicle::Vehicle;
 use plan::order::Pick;
 
 pub mod attempt;
-pub mod pool;
 pub mod round;
-
-// What a call answers: how many routes are left, and what its attempts count.
-pub struct Minimized {
-    pub routes: usize,
-    pub counts: Counts,
-}
 
 // Rounds of attempts, begun again from the shortest route as soon as one is accepted.
 fn search(
@@ -48,7 +43,7 @@ fn search(
     due: &[f64],
     penalty: &[f64],
     flags: &[u8],
-) -> Minimized
+) -> Reduction
     requires { ⌜ Searching (problem n (now demand) (now service) (now ready) (now due) (now penalty) (now flags) (now distances) (now times) vehicle) (now tape) limit
         (now lengths) (now stops) (now work) (now cells) ⌝ }
     requires { ⌜ needed ≡ route-checks-needed (now flags) (limits-of vehicle) ⌝ }
@@ -87,7 +82,7 @@ fn search(
             );
             match next {
                 Next::End => {
-                    return Minimized {
+                    return Reduction {
                         routes: count,
                         counts,
                     };
@@ -124,7 +119,7 @@ pub fn minimize_routes(
     due: &[f64],
     penalty: &[f64],
     flags: &[u8],
-) -> Minimized
+) -> Reduction
     requires { ⌜ Searching (problem n (now demand) (now service) (now ready) (now due) (now penalty) (now flags) (now distances) (now times) vehicle) (now tape) limit
         (now lengths) (now stops) (now work) (now cells) ⌝ }
     ensures { λ r. ⌜ Answers (minimize-routes (allowance limit clock (now (tape .entry))) (problem n (now (demand .entry)) (now (service .entry)) (now (ready .entry)) (now (due .entry)) (now (penalty .entry)) (now (flags .entry))
@@ -132,7 +127,7 @@ pub fn minimize_routes(
         (split (now (lengths .entry)) (now (stops .entry)))) (length (now (lengths .entry))) (r .routes) (r .counts) (now (lengths .exit)) (now (stops .exit)) ⌝ }
 {
     if has_soft_windows(flags) {
-        return Minimized {
+        return Reduction {
             routes: lengths.len(),
             counts: Counts { steps: 0, draws: 0 },
         };

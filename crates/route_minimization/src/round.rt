@@ -8,25 +8,19 @@ ghost use Rattle.plan.specs.Order.{following};
 ghost use Rattle.local_search.specs.Planned.{Planned};
 ghost use Rattle.local_search.specs.Route.{cost};
 ghost use Rattle.local_search.specs.Rounds.{try-each};
+ghost use Rattle.local_search.specs.Search.{but-last, tried-next, Next-leaves};
 ghost use Rattle.route_minimization.specs.Minimize.{attempt};
-ghost use Rattle.route_minimization.specs.Running.{allowance};
-ghost use Rattle.route_minimization.specs.Attempting.{Attempting, but-last};
-ghost use Rattle.route_minimization.specs.Minimizing.{tried-next, Next-leaves};
+ghost use Rattle.ejection_pool.specs.Running.{allowance};
+ghost use Rattle.route_minimization.specs.Attempting.{Attempting};
 use crate::attempt::Attempted;
 use crate::attempt::attempt;
 use local_search::rounds::Counts;
+use local_search::rounds::Next;
 use local_search::route::plan_cost;
 use models::vehicle::Vehicle;
 use plan::drop_empty;
 use plan::order::Pick;
 use plan::order::next_pick;
-
-// How the next attempt of a round ends: there is none, the plan is kept and this was the pick, or the one without the route is accepted.
-pub enum Next {
-    End,
-    Kept(Pick, Counts),
-    Accepted(Counts),
-}
 
 // What a round starts with: how many routes there are, and what they cost.
 pub struct Round {

@@ -1,19 +1,26 @@
 -- `search` meets its contract.
-use mathlib.Core.Path.{sym, ap, _∙_}
+use mathlib.Core.Path.{_≡_, refl, sym, ap, _∙_}
 use native.Mathlib.Omega.{arith}
 use borrow.Author.Needs.{needs}
 use lib.ListN.{length, take}
 use Rattle.models.specs.Problem.{problem}
-use Rattle.plan.specs.Plan.{drop-zero}
+use Rattle.plan.specs.Plan.{split, drop-zero}
 use Rattle.plan.specs.Order.{following}
-use Rattle.route_minimization.specs.Running.{allowance}
-use Rattle.route_minimization.proofs.MinimizeLaws.{Rounding, Trying, rounding-start, round-lent, round-same, trying-start, front-length, front-in, trying-attempt, trying-cost, trying-few, back-long, at-end, after-kept-less, after-kept, after-accepted-less, after-accepted}
+use Rattle.ejection_pool.specs.Running.{allowance}
+use Rattle.local_search.specs.Route.{cost}
+use Rattle.local_search.proofs.SearchLaws.{Rounding, Trying, rounding-start, round-lent, round-same, trying-start, front-length, front-in, trying-routes, trying-routes-few, back-long, at-end, after-kept-less, after-kept, after-accepted-less, after-accepted}
+use Rattle.route_minimization.specs.Minimize.{attempt}
+use Rattle.route_minimization.specs.Minimized.{attempt-reduces}
+use Rattle.route_minimization.proofs.NextLaws.{round-cost}
+use Rattle.route_minimization.proofs.MinimizeLaws.{trying-attempt}
 use Rattle.route_minimization.proofs.search.Statement.{statement}
 use Rattle.route_minimization.proofs.search.Tie as tie
 
 abbrev Inv-loop : tie.InvT-loop
 Inv-loop lengths₀ stops₀ work₀ cells₀ tape limit clock needed vehicle demand n distances times service ready due penalty flags counts₀ round count last₀ lengths stops work cells counts last =
-    Trying (allowance limit clock tape) (problem n demand service ready due penalty flags distances times vehicle) lengths₀ stops₀ work₀ cells₀ counts₀ count (round .before) lengths stops work cells counts last
+    let p = problem n demand service ready due penalty flags distances times vehicle in
+    Trying (attempt (allowance limit clock tape) p) limit n lengths₀ stops₀ counts₀ count lengths stops counts last
+    × (round .before ≡ cost p (split (take count lengths₀) stops₀)) × (length work ≡ length work₀) × (length cells ≡ length cells₀)
 
 abbrev μ-loop : tie.MeasureT-loop
 μ-loop lengths₀ stops₀ work₀ cells₀ tape limit clock needed vehicle demand n distances times service ready due penalty flags counts₀ round count last₀ lengths stops work cells counts last =
@@ -21,7 +28,8 @@ abbrev μ-loop : tie.MeasureT-loop
 
 abbrev Inv-search : tie.InvT-search
 Inv-search lengths₀ stops₀ work₀ cells₀ tape limit clock needed vehicle demand n distances times service ready due penalty flags counts₀ lengths stops work cells counts =
-    Rounding (allowance limit clock tape) (problem n demand service ready due penalty flags distances times vehicle) lengths₀ stops₀ work₀ cells₀ lengths stops work cells counts
+    Rounding (attempt (allowance limit clock tape) (problem n demand service ready due penalty flags distances times vehicle)) limit n lengths₀ stops₀ lengths stops counts
+    × (length work ≡ length work₀) × (length cells ≡ length cells₀)
 
 abbrev μ-search : tie.MeasureT-search
 μ-search lengths₀ stops₀ work₀ cells₀ tape limit clock needed vehicle demand n distances times service ready due penalty flags counts₀ lengths stops work cells counts =
@@ -29,39 +37,43 @@ abbrev μ-search : tie.MeasureT-search
 
 search-holds : tie.Need-search-holds Inv-loop μ-loop Inv-search μ-search
 search-holds c =
-    rounding-start _ _ _ _ _ _ _ (c .before .before .before .before .before .before .before .before .before .before .before .before .pre .0)
+    let q = c .before .before .before .before .before .before .before .before .before .before .before .before .pre .0 in
+    (rounding-start _ _ _ _ _ (q .whole) (q .routes-few) (q .planned), refl, refl)
 
 begin-requires : tie.Need-begin-requires Inv-loop μ-loop Inv-search μ-search
 begin-requires c κs =
     let q = c .before .before .before .before .before .before .before .before .before .before .before .before .before .before .before .pre .0 in
     let o = c .before .before .search .inv in
-    ((q .admitted .fit .square .few, q .admitted .fit .square .distance-cells, q .admitted .depot-in), (round-lent _ _ o (q .few), o .planned))
+    ((q .admitted .fit .square .few, q .admitted .fit .square .distance-cells, q .admitted .depot-in), (round-lent _ _ _ (o .0) (q .few), o .0 .planned))
 
 loop-holds : tie.Need-loop-holds Inv-loop μ-loop Inv-search μ-search
 loop-holds c =
     let q = c .before .before .before .before .before .before .before .before .before .before .before .before .before .before .before .before .before .before .pre .0 in
     let o = c .before .before .before .before .before .search .inv in
-    let b = c .before .before .begin in
-    trying-start _ _ o (q .few) _ _ (b .ensures .0) (b .ensures .1 .0) _ (q .routes-few) (b .ensures .1 .1)
+    let b = c .before .before .begin in (
+      trying-start _ _ _ (o .0) (q .few) _ _ (b .ensures .0) (b .ensures .1 .0) (q .routes-few),
+      round-cost _ _ _ (b .ensures .0) (b .ensures .1 .0) _ _ _ (b .ensures .1 .1),
+      refl,
+      refl,
+    )
 
 slice-relend-prefix-try-next :
     tie.Need-slice-relend-prefix-try-next Inv-loop μ-loop Inv-search μ-search
 slice-relend-prefix-try-next c =
-    front-in _ _ (c .loop .inv)
+    front-in _ _ _ (c .loop .inv .0)
 
 slice-aggregate-try-next : tie.Need-slice-aggregate-try-next Inv-loop μ-loop Inv-search μ-search
 slice-aggregate-try-next c =
-    sym (front-length _ _ (c .before .loop .inv))
+    sym (front-length _ _ _ (c .before .loop .inv .0))
 
 try-next-requires : tie.Need-try-next-requires Inv-loop μ-loop Inv-search μ-search
 try-next-requires c κs =
     let st = c .before .before .before .before .before .before .before .before .before .before .before .before .before .before .before .before .before .before .before .before .before .before .before in
     let q = st .pre .0 in
     let o = c .before .before .before .before .before .before .before .before .before .before .search .inv in
-    let b = c .before .before .before .before .before .before .before .begin in
     let g = c .before .before .before .before .loop .inv in (
-      trying-attempt _ _ g _ _ (q .admitted) (st .pre .1) (q .drawable) (q .limited) (omega (arith, q .work-room, o .work-long)) (omega (arith, q .cells-room, o .cells-long)),
-      (trying-cost _ _ g, trying-few _ _ g, omega (arith, q .work-room, o .work-long, g .work-long), g .drawn),
+      trying-attempt _ _ (g .0) _ _ _ _ (q .admitted) (st .pre .1) (q .drawable) (q .limited) (omega (arith, q .work-room, o .1, g .2)) (omega (arith, q .cells-room, o .2, g .3)),
+      (g .1 ∙ ap (cost _) (sym (trying-routes _ _ _ (g .0))), trying-routes-few _ _ _ (g .0), omega (arith, q .work-room, o .1, g .2), g .0 .drawn),
     )
 
 enum-told : tie.Need-enum-told Inv-loop μ-loop Inv-search μ-search
@@ -69,43 +81,32 @@ enum-told c = search needs
 
 same-length : tie.Need-same-length Inv-loop μ-loop Inv-search μ-search
 same-length c =
-    let st = c .before .before .before .before .before .before .before .before .before .before .before .before .before .before .before .before .before .before .before .before .before .before .before .before .before .before .before .before .before .before .before .before .before .before in
-    let q = st .pre .0 in
     let o = c .before .before .before .before .before .before .before .before .before .before .before .before .before .before .before .before .before .before .before .before .before .search .inv in
     let b = c .before .before .before .before .before .before .before .before .before .before .before .before .before .before .before .before .before .before .begin in
     let g = c .before .before .before .before .before .before .before .before .before .before .before .before .before .before .before .loop .inv in
     let t = c .before .before .before .before .before .before .before .before .before .before .try-next in
-    back-long _ _ g (t .last .0) (t .kept .0) ∙ ap length (g .same-lengths) ∙ b .kept .0 ∙ o .long
+    back-long _ _ _ (g .0) (t .last .0) (t .kept .0) ∙ ap length (g .0 .same-lengths) ∙ b .kept .0 ∙ o .0 .long
 
 same-length-2 : tie.Need-same-length-2 Inv-loop μ-loop Inv-search μ-search
 same-length-2 c =
-    let st = c .before .before .before .before .before .before .before .before .before .before .before .before .before .before .before .before .before .before .before .before .before .before .before .before .before .before .before .before .before .before .before .before .before .before in
-    let q = st .pre .0 in
     let o = c .before .before .before .before .before .before .before .before .before .before .before .before .before .before .before .before .before .before .before .before .before .search .inv in
-    let b = c .before .before .before .before .before .before .before .before .before .before .before .before .before .before .before .before .before .before .begin in
     let g = c .before .before .before .before .before .before .before .before .before .before .before .before .before .before .before .loop .inv in
     let t = c .before .before .before .before .before .before .before .before .before .before .try-next in
-    t .kept .1 .0 ∙ ap length (g .same-stops) ∙ o .stops-long
+    t .kept .1 .0 ∙ ap length (g .0 .same-stops) ∙ o .0 .stops-long
 
 same-length-3 : tie.Need-same-length-3 Inv-loop μ-loop Inv-search μ-search
 same-length-3 c =
-    let st = c .before .before .before .before .before .before .before .before .before .before .before .before .before .before .before .before .before .before .before .before .before .before .before .before .before .before .before .before .before .before .before .before .before .before in
-    let q = st .pre .0 in
     let o = c .before .before .before .before .before .before .before .before .before .before .before .before .before .before .before .before .before .before .before .before .before .search .inv in
-    let b = c .before .before .before .before .before .before .before .before .before .before .before .before .before .before .before .before .before .before .begin in
     let g = c .before .before .before .before .before .before .before .before .before .before .before .before .before .before .before .loop .inv in
     let t = c .before .before .before .before .before .before .before .before .before .before .try-next in
-    t .kept .1 .1 .0 ∙ g .work-long ∙ o .work-long
+    t .kept .1 .1 .0 ∙ g .2 ∙ o .1
 
 same-length-4 : tie.Need-same-length-4 Inv-loop μ-loop Inv-search μ-search
 same-length-4 c =
-    let st = c .before .before .before .before .before .before .before .before .before .before .before .before .before .before .before .before .before .before .before .before .before .before .before .before .before .before .before .before .before .before .before .before .before .before in
-    let q = st .pre .0 in
     let o = c .before .before .before .before .before .before .before .before .before .before .before .before .before .before .before .before .before .before .before .before .before .search .inv in
-    let b = c .before .before .before .before .before .before .before .before .before .before .before .before .before .before .before .before .before .before .begin in
     let g = c .before .before .before .before .before .before .before .before .before .before .before .before .before .before .before .loop .inv in
     let t = c .before .before .before .before .before .before .before .before .before .before .try-next in
-    t .kept .1 .1 .1 .0 ∙ g .cells-long ∙ o .cells-long
+    t .kept .1 .1 .1 .0 ∙ g .3 ∙ o .2
 
 returns : tie.Need-returns Inv-loop μ-loop Inv-search μ-search
 returns c =
@@ -115,43 +116,32 @@ returns c =
     let b = c .before .before .before .before .before .before .before .before .before .before .before .before .before .before .before .before .before .before .begin in
     let g = c .before .before .before .before .before .before .before .before .before .before .before .before .before .before .before .loop .inv in
     let t = c .before .before .before .before .before .before .before .before .before .before .try-next in
-    at-end _ _ g _ _ _ (t .ensures .0) (t .ensures .1) _ _ (round-same _ _ o (q .few) _ _ (b .ensures .0) (b .ensures .1 .0)) (sym (b .kept .0 ∙ o .long)) (c .enum-told .given .1)
+    at-end _ _ _ (g .0) _ _ _ (t .ensures .0) (t .ensures .1) (attempt-reduces _ _) _ _ (round-same _ _ _ (o .0) (q .few) _ _ (b .ensures .0) (b .ensures .1 .0)) (sym (b .kept .0 ∙ o .0 .long)) (c .enum-told .given .1)
 
 enum-known-next : tie.Need-enum-known-next Inv-loop μ-loop Inv-search μ-search
 enum-known-next c = search needs
 
 loop-less : tie.Need-loop-less Inv-loop μ-loop Inv-search μ-search
 loop-less c =
-    let st = c .before .before .before .before .before .before .before .before .before .before .before .before .before .before .before .before .before .before .before .before .before .before .before .before .before .before .before .before .before .before .before .before .before .before .before in
-    let q = st .pre .0 in
-    let o = c .before .before .before .before .before .before .before .before .before .before .before .before .before .before .before .before .before .before .before .before .before .before .search .inv in
-    let b = c .before .before .before .before .before .before .before .before .before .before .before .before .before .before .before .before .before .before .before .begin in
     let g = c .before .before .before .before .before .before .before .before .before .before .before .before .before .before .before .before .loop .inv in
     let t = c .before .before .before .before .before .before .before .before .before .before .before .try-next in
-    after-kept-less _ _ g _ _ _ (t .ensures .0) (t .ensures .1) _ _ (c .before .next .given .1)
+    after-kept-less _ _ _ (g .0) _ _ _ (t .ensures .0) (t .ensures .1) _ _ (c .before .next .given .1)
 
 loop-again : tie.Need-loop-again Inv-loop μ-loop Inv-search μ-search
 loop-again c =
-    let st = c .before .before .before .before .before .before .before .before .before .before .before .before .before .before .before .before .before .before .before .before .before .before .before .before .before .before .before .before .before .before .before .before .before .before .before in
-    let q = st .pre .0 in
-    let o = c .before .before .before .before .before .before .before .before .before .before .before .before .before .before .before .before .before .before .before .before .before .before .search .inv in
-    let b = c .before .before .before .before .before .before .before .before .before .before .before .before .before .before .before .before .before .before .before .begin in
     let g = c .before .before .before .before .before .before .before .before .before .before .before .before .before .before .before .before .loop .inv in
     let t = c .before .before .before .before .before .before .before .before .before .before .before .try-next in
-    after-kept _ _ g _ _ _ (t .ensures .0) (t .ensures .1) _ _ (c .before .next .given .1) _ _ (t .kept .1 .1 .0) (t .kept .1 .1 .1 .0)
+    (after-kept _ _ _ (g .0) _ _ _ (t .ensures .0) (t .ensures .1) _ _ (c .before .next .given .1), g .1, t .kept .1 .1 .0 ∙ g .2, t .kept .1 .1 .1 .0 ∙ g .3)
 
 enum-known-next-2 : tie.Need-enum-known-next-2 Inv-loop μ-loop Inv-search μ-search
 enum-known-next-2 c = search needs
 
 search-less : tie.Need-search-less Inv-loop μ-loop Inv-search μ-search
 search-less c =
-    let st = c .before .before .before .before .before .before .before .before .before .before .before .before .before .before .before .before .before .before .before .before .before .before .before .before .before .before .before .before .before .before .before .before .before .before .before in
-    let q = st .pre .0 in
-    let o = c .before .before .before .before .before .before .before .before .before .before .before .before .before .before .before .before .before .before .before .before .before .before .search .inv in
     let b = c .before .before .before .before .before .before .before .before .before .before .before .before .before .before .before .before .before .before .before .begin in
     let g = c .before .before .before .before .before .before .before .before .before .before .before .before .before .before .before .before .loop .inv in
     let t = c .before .before .before .before .before .before .before .before .before .before .before .try-next in
-    after-accepted-less _ _ g _ _ _ (t .ensures .0) (t .ensures .1) _ (t .kept .0) (c .before .next2 .given .1) _ (b .ensures .1 .0)
+    after-accepted-less _ _ _ (g .0) _ _ _ (t .ensures .0) (t .ensures .1) _ (t .kept .0) (c .before .next2 .given .1) _ (b .ensures .1 .0)
 
 search-again : tie.Need-search-again Inv-loop μ-loop Inv-search μ-search
 search-again c =
@@ -160,8 +150,11 @@ search-again c =
     let o = c .before .before .before .before .before .before .before .before .before .before .before .before .before .before .before .before .before .before .before .before .before .before .search .inv in
     let b = c .before .before .before .before .before .before .before .before .before .before .before .before .before .before .before .before .before .before .before .begin in
     let g = c .before .before .before .before .before .before .before .before .before .before .before .before .before .before .before .before .loop .inv in
-    let t = c .before .before .before .before .before .before .before .before .before .before .before .try-next in
-    after-accepted _ _ g _ _ _ (t .ensures .0) (t .ensures .1) _ (t .kept .0) (c .before .next2 .given .1) _ _ _ _ _ _ (b .kept .0 ∙ o .long) (o .stops-long) (t .kept .1 .0) (o .work-long) (o .cells-long) (t .kept .1 .1 .0) (t .kept .1 .1 .1 .0) (round-same _ _ o (q .few) _ _ (b .ensures .0) (b .ensures .1 .0))
+    let t = c .before .before .before .before .before .before .before .before .before .before .before .try-next in (
+      after-accepted _ _ _ (g .0) _ _ _ (t .ensures .0) (t .ensures .1) _ (t .kept .0) (c .before .next2 .given .1) (attempt-reduces _ _) _ _ (b .kept .0 ∙ o .0 .long) (o .0 .stops-long) (t .kept .1 .0) (round-same _ _ _ (o .0) (q .few) _ _ (b .ensures .0) (b .ensures .1 .0)),
+      t .kept .1 .1 .0 ∙ g .2 ∙ o .1,
+      t .kept .1 .1 .1 .0 ∙ g .3 ∙ o .2,
+    )
 
 pub search-spec : {M : Type 1} → statement M
 search-spec =

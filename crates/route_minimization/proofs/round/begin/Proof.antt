@@ -1,6 +1,7 @@
 -- `round::begin` meets its contract.
 use borrow.Author.Needs.{needs}
-use Rattle.route_minimization.proofs.NextLaws.{count-within, begun-lent, begun-planned, begun-cost}
+use Rattle.local_search.proofs.NextLaws.{count-within, begun-lent, begun-planned}
+use Rattle.route_minimization.proofs.NextLaws.{begun-cost}
 use Rattle.route_minimization.proofs.round.begin.Statement.{statement}
 use Rattle.route_minimization.proofs.round.begin.Tie as tie
 

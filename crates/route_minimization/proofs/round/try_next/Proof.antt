@@ -1,7 +1,8 @@
 -- `round::try_next` meets its contract.
 use mathlib.Core.Path.{refl}
 use borrow.Author.Needs.{needs}
-use Rattle.route_minimization.proofs.NextLaws.{no-pick, pick-there, next-kept, next-refused, next-accepted, next-taken}
+use Rattle.local_search.proofs.NextLaws.{no-pick, pick-there}
+use Rattle.route_minimization.proofs.NextLaws.{pool-kept, pool-accepted}
 use Rattle.route_minimization.proofs.round.try_next.Statement.{statement}
 use Rattle.route_minimization.proofs.round.try_next.Tie as tie
 
@@ -51,7 +52,7 @@ returns-2 c =
     let k = c .before .before .before .before .before .before .before .before .before .before .before .before .before .before .before .before .before .pick in
     let t = c .before .before .before .before .before .before .before .before .before .before .before .attempt in
     let f = c .before .tried .given .1 in
-    (next-kept _ _ _ (u .ensures) _ _ (k .given .1) _ _ _ _ _ _ _ (t .ensures .0) (t .ensures .1) _ f, next-refused _ _ _ (u .ensures) _ _ (k .given .1) _ _ _ _ _ _ _ (t .ensures .0) (t .ensures .1) _ f (q .1 .3))
+    pool-kept _ _ _ (u .ensures) _ _ (k .given .1) _ _ _ _ _ _ _ (t .ensures .0) (t .ensures .1) _ (q .1 .3) f
 
 same-length-6 : tie.Need-same-length-6
 same-length-6 c = search needs
@@ -72,7 +73,7 @@ returns-3 c =
     let k = c .before .before .before .before .before .before .before .before .before .before .before .before .before .before .before .before .before .pick in
     let t = c .before .before .before .before .before .before .before .before .before .before .before .attempt in
     let f = c .before .tried2 .given .1 in
-    (next-accepted _ _ _ (u .ensures) _ _ (k .given .1) _ _ _ _ _ _ _ (t .ensures .0) (t .ensures .1) _ f, next-taken _ _ _ (u .ensures) _ _ (k .given .1) _ _ _ _ _ _ _ (t .ensures .0) (t .ensures .1) _ f (q .0 .whole) (t .kept .1 .0) (q .0 .planned) (q .1 .3))
+    pool-accepted _ _ _ (u .ensures) _ _ (k .given .1) _ _ _ _ _ _ _ (t .ensures .0) (t .ensures .1) _ (q .1 .3) f (q .0 .whole) (t .kept .1 .0) (q .0 .planned)
 
 pub try-next-spec : {M : Type 1} → statement M
 try-next-spec =

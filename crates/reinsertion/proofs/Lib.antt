@@ -1,0 +1,7 @@
+-- Laws of this crate's definitions, as the code meets them.
+-- the worth of a route and of an insertion
+pub mod WorthLaws
+-- the positions of one route
+pub mod PlaceLaws
+-- the routes of a plan
+pub mod OverLaws

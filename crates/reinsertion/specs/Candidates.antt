@@ -1,0 +1,69 @@
+-- What a route and an insertion are worth, and the place for a stop: the first candidate by cost that passes (route_elimination.rs, the body of
+-- `for c in moving`). Assumes nothing.
+use Prim.Native.Nat.{ℕ, suc}
+use mathlib.Core.List.{List, [], _∷_, map, flatMap}
+use mathlib.Core.Bool.{Bool, cond, not, _||_}
+use mathlib.Core.Option.{Option, none, some}
+use lib.ListN.{length}
+use lib.Ieee.{Float, le}
+use Rattle.floats.specs.Binary64.{_⊕_, _⊖_, 0f, is-finite, total-less}
+use Rattle.laws.specs.Edits.{insert-at}
+use Rattle.laws.specs.Keeps.{keep}
+use Rattle.laws.specs.Sorts.{range, sort-by}
+use Rattle.models.specs.RouteLimits.{limits-of}
+use Rattle.models.specs.Problem.{Problem, depot}
+use Rattle.evaluation.specs.Eval.{effective-cost}
+use Rattle.evaluation.specs.Check.{has-soft-windows}
+use Rattle.plan.specs.Plan.{Plan, route}
+use Rattle.local_search.specs.declared.route.Insertion.{Insertion}
+use Rattle.local_search.specs.Route.{route-distance, insertion-cost}
+use Rattle.local_search.specs.Feasible.{has-room, checked}
+
+-- ---- what a route is worth, and what an insertion costs
+
+-- `soft`
+abbrev pub soft : Problem → Bool
+soft p = has-soft-windows (p .places .flags)
+
+-- the closure `worth`: "With a soft window, worth is `effective_cost`."
+unfoldable pub worth : Problem → List ℕ → Float
+worth p r = cond (soft p) (effective-cost (p .places) (p .roads) (depot p) (limits-of (p .vehicle)) r) (route-distance (p .roads) (depot p) r)
+
+-- `cost`: with a soft window the change in worth, otherwise what the insertion adds to the distance
+unfoldable pub insertion-worth : Problem → List ℕ → ℕ → ℕ → Float
+insertion-worth p r pos c = cond (soft p) (worth p (insert-at pos c r) ⊖ worth p r) (insertion-cost (p .roads) (depot p) r pos c)
+
+-- ---- candidates
+
+-- the candidates for c in route k: every position, but for costs that are not finite where a window is soft
+unfoldable pub positions : Problem → ℕ → ℕ → List ℕ → List Insertion
+positions p c k r =
+    keep (λ x. not (soft p) || is-finite (x .cost))
+    (map (λ pos. record { cost = insertion-worth p r pos c; route = k; pos = pos }) (range 0 (suc (length r))))
+
+-- none in a route that has no room
+unfoldable pub candidates-in : Problem → ℕ → ℕ → List ℕ → List Insertion
+candidates-in p c k r = cond (has-room p r c) (positions p c k r) []
+
+-- over routes, then positions
+unfoldable pub candidates : Problem → ℕ → Plan → List Insertion
+candidates p c rest = flatMap (λ k. candidates-in p c k (route k rest)) (range 0 (length rest))
+
+-- read of no list
+abbrev pub nowhere : Insertion
+nowhere = record { cost = 0f; route = 0; pos = 0 }
+
+-- "candidates by cost, stable": `total_cmp`
+abbrev pub by-cost : List Insertion → List Insertion
+by-cost xs = sort-by (λ x y. total-less (x .cost) (y .cost)) nowhere xs
+
+-- the route of a candidate with c put in
+abbrev pub trial : Plan → ℕ → Insertion → List ℕ
+trial rest c x = insert-at (x .pos) c (route (x .route) rest)
+
+-- the first candidate that passes the check, where it is needed: "stop at added + cost ≥ saved"
+unfoldable pub first-passing : Problem → Plan → ℕ → Float → Float → List Insertion → Option Insertion
+first-passing p rest c added saved [] = none
+first-passing p rest c added saved (x ∷ xs) =
+    let later = first-passing p rest c added saved xs in
+    cond (le saved (added ⊕ x .cost)) none (cond (checked p (trial rest c x)) (some x) later)
