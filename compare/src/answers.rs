@@ -27,7 +27,7 @@ pub fn print(side: &mut dyn Side, count: u64, seed: u64, most: usize, steps: u64
 }
 
 /// The most steps that a call of a case takes.
-fn longest(side: &mut dyn Side, case: &Case) -> u64 {
+pub fn longest(side: &mut dyn Side, case: &Case) -> u64 {
     let mut plan = case.plan.clone();
     let mut most = 0;
     for asked in &case.calls {

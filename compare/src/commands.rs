@@ -1,16 +1,19 @@
-//! The commands: a run of the comparison, one case in full, cases with the original's answers, and the time of both.
+//! The commands: a run of the comparison, one case in full, cases with the original's answers, for people and for the program replay, and
+//! the time of both.
 
 use comparison::model::Model;
 use comparison::original::Original;
 use comparison::ported::Port;
 use comparison::problem::Side;
-use comparison::{answers, cases, generate, run, ORIGINAL};
+use comparison::{answers, cases, generate, replay, run, ORIGINAL};
 
 const USAGE: &str = "compare [COUNT] [SEED]           compares COUNT calls (20000) of SEED (1)
 compare --case CASE [PLACES]     prints the case of that number with every side's answers
 compare --answers N SEED [PLACES] [STEPS]
                                  prints N cases with the original's answers, of at most PLACES places (8) each,
                                  and with at most STEPS steps (100) in a call
+compare --replay N SEED [PLACES] [STEPS]
+                                 prints N such cases, the twelve and some for every row, for the program replay
 compare --time [COUNT] [SEED]    the time that original and port take for COUNT calls (20000) of SEED (1)";
 
 /// Runs the command that the words name, and returns its exit status.
@@ -34,6 +37,9 @@ pub fn run(words: &[String]) -> i32 {
         ("--time", []) => time(20_000, 1),
         ("--time", [count]) => time(*count, 1),
         ("--time", [count, seed]) => time(*count, *seed),
+        ("--replay", [count, seed]) => print_replay(*count, *seed, 8, 100),
+        ("--replay", [count, seed, places]) => print_replay(*count, *seed, *places as usize, 100),
+        ("--replay", [count, seed, places, steps]) => print_replay(*count, *seed, *places as usize, *steps),
         _ => wrong_usage(),
     }
 }
@@ -96,5 +102,13 @@ fn print_answers(count: u64, seed: u64, places: usize, steps: u64) -> i32 {
 fn time(count: u64, seed: u64) -> i32 {
     println!("the time of {count} calls, seed {seed}, in milliseconds");
     run::time(&mut Original::default(), &mut Port::default(), count, seed).print();
+    0
+}
+
+fn print_replay(count: u64, seed: u64, places: usize, steps: u64) -> i32 {
+    if places == 0 {
+        return wrong_usage();
+    }
+    replay::print(&mut Original, count, seed, places, steps);
     0
 }

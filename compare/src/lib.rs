@@ -22,6 +22,7 @@ pub mod port;
 pub mod ported;
 pub mod problem;
 pub mod random;
+pub mod replay;
 pub mod run;
 mod stand_ins;
 

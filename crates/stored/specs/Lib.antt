@@ -1,0 +1,3 @@
+-- What the readers of slices say of their counts.
+-- a count of cells
+pub mod Counts
