@@ -109,6 +109,6 @@ fn print_replay(count: u64, seed: u64, places: usize, steps: u64) -> i32 {
     if places == 0 {
         return wrong_usage();
     }
-    replay::print(&mut Original, count, seed, places, steps);
+    replay::print(&mut Original::default(), count, seed, places, steps);
     0
 }
