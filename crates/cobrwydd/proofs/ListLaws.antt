@@ -2,9 +2,9 @@
 use Prim.Native.Nat.{ℕ}
 use mathlib.Core.Path.{_≡_, refl}
 use mathlib.Core.List.{List}
-use mathlib.Core.Bool.{true, false}
+use mathlib.Core.Bool.{Bool, true, false, cond}
 use native.Mathlib.Omega.{arith}
-use borrow.Author.Tests.{eq-eqb, ne-eqb}
+use lib.Dec.{leb}
 use Rattle.models.specs.Problem.{Problem}
 use Rattle.planner.specs.declared.lists.Ran.{Ran}
 use Rattle.planner.specs.declared.lists.Ran.the-variants.{Malformed, Done as RanAll}
@@ -12,18 +12,23 @@ use Rattle.planner.specs.Lists.{Buffers, well-formed, Untouched, All-run, Leave
 use Rattle.cobrwydd.specs.Said.{misfit}
 use Rattle.cobrwydd.specs.Lists.{list-code, Ran-list}
 
+-- where the test of `given` leaves 101 and where it leaves 0
+over : (b : Bool) (m x : ℕ) → m ≡ cond b 0 101 → (m ≡ 0 → ⊥) → m ≡ cond b x 101
+over true m x e h = absurd (h e)
+over false m x e h = e
+
+within : (b : Bool) (m x : ℕ) → m ≡ cond b 0 101 → m ≡ 0 → x ≡ cond b x 101
+within true m x e h = refl
+within false m x e h = absurd (omega arith)
+
 module _ (given : ℕ) (calls tapes : List ℕ) (before : Buffers) (m : ℕ) (e : m ≡ misfit 0 0 0 0 given) where
   misfit-code : (m ≡ 0 → ⊥) → m ≡ list-code given calls tapes before
-  unfolding list-code
-  misfit-code h = rw (← e, ne-eqb m 0 h)
+  unfolding list-code misfit
+  misfit-code h = over (leb given 7) m _ e h
 
-  malformed-code : m ≡ 0 → well-formed calls tapes before ≡ false → 102 ≡ list-code given calls tapes before
-  unfolding list-code
-  malformed-code h f = rw (← e, eq-eqb m 0 h, f)
-
-  formed-code : m ≡ 0 → well-formed calls tapes before ≡ true → 0 ≡ list-code given calls tapes before
-  unfolding list-code
-  formed-code h f = rw (← e, eq-eqb m 0 h, f)
+  formed-code : m ≡ 0 → (b : Bool) → well-formed calls tapes before ≡ b → cond b 0 102 ≡ list-code given calls tapes before
+  unfolding list-code misfit
+  formed-code h b f = rw (← f) (within (leb given 7) m _ e h)
 
   module _ (p : Problem) where
     pub list-misfit : (m ≡ 0 → ⊥) → Ran-list m given p calls tapes before before
@@ -31,10 +36,10 @@ module _ (given : ℕ) (calls tapes : List ℕ) (before : Buffers) (m : ℕ) (e 
 
     module _ (after : Buffers) (h : m ≡ 0) where
       malformed : Untouched calls tapes before after → Ran-list 102 given p calls tapes before after
-      malformed u = record { number = malformed-code h (u .malformed); ran = λ z. absurd (omega arith); kept = λ _. u .same }
+      malformed u = record { number = formed-code h false (u .malformed); ran = λ z. absurd (omega arith); kept = λ _. u .same }
 
       all-run : (n : ℕ) → All-run n p calls tapes before after → Ran-list 0 given p calls tapes before after
-      all-run n a = record { number = formed-code h (a .formed); ran = λ _. rw (← a .count) a; kept = λ z. absurd (z refl) }
+      all-run n a = record { number = formed-code h true (a .formed); ran = λ _. rw (← a .count) a; kept = λ z. absurd (z refl) }
 
       pub list-malformed : (r : Ran) → r ≡ Malformed → Leaves r p calls tapes before after → Ran-list 102 given p calls tapes before after
       list-malformed r f l = malformed (rw f at l)

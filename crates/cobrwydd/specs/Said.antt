@@ -19,7 +19,7 @@ use Rattle.planner.specs.Told.{slices-of}
 
 -- ---- the slices for an answer
 
--- their contents; a function that lends none of a kind has none there
+-- their contents; a function that has none of a kind has [] there
 pub record Values : Type 0 where
   pub floats : List Float
   pub numbers : List ℕ
@@ -35,7 +35,7 @@ pub record Said : Type 0 where
 abbrev pub says : ℕ → List Float → List ℕ → Said
 says code floats numbers = record { code = code; after = values floats numbers }
 
--- 100 where a slice for the answer has not its length, 101 where `given` is over 7, else 0
+-- 100 where the slice of floats has another length than `asked` or that of numbers than `wanted`, 101 where `given` is over 7, else 0
 unfoldable pub misfit : ℕ → ℕ → ℕ → ℕ → ℕ → ℕ
 misfit floats asked numbers wanted given = cond (eqb floats asked) (cond (eqb numbers wanted) (cond (leb given 7) 0 101) 100) 100
 
@@ -55,34 +55,33 @@ question into asked wanted given out a =
 
 -- ---- answers as values
 
--- yes is 1, no is 0
-abbrev pub flag : Bool → ℕ
-flag b = cond b 1 0
-
+-- `route_feasible`: 1 for yes, 0 for no
 abbrev pub checked-values : Bool → Values
-checked-values b = values [] (flag b ∷ [])
+checked-values b = values [] (cond b 1 0 ∷ [])
 
+-- `effective_cost`, `route_distance`, `lateness_bound`, `gain_floor`: the number
 abbrev pub number-values : Float → Values
 number-values x = values (x ∷ []) []
 
--- floats: distance, duration, lateness, lateness cost, start of the break; numbers: whether the route passes, whether the break is taken, at which stop.
--- What there is not is 0.
+-- A route that passes. Floats: distance, duration, lateness, lateness cost, start of the break; numbers: whether it passes, whether the break is taken,
+-- at which stop. What there is not is 0.
 abbrev pub evaluated : Float → Float → Float → Float → Taken → Values
 evaluated distance duration lateness cost NotTaken = values (distance ∷ duration ∷ lateness ∷ cost ∷ 0f ∷ []) (1 ∷ 0 ∷ 0 ∷ [])
 evaluated distance duration lateness cost (TakenAt stop start) = values (distance ∷ duration ∷ lateness ∷ cost ∷ start ∷ []) (1 ∷ 1 ∷ stop ∷ [])
 
+-- `route_eval`, `schedule`
 abbrev pub eval-values : Eval → Values
 eval-values Infeasible = values (0f ∷ 0f ∷ 0f ∷ 0f ∷ 0f ∷ []) (0 ∷ 0 ∷ 0 ∷ [])
 eval-values (Feasible e) = evaluated (e .distance) (e .duration) (e .lateness) (e .«lateness_cost») (e .rest)
 
--- floats: ready, due; numbers: whether there is a window
+-- `TimeWindow::new`. Floats: ready, due; numbers: whether there is a window.
 abbrev pub window-values : Window → Values
 window-values NoWindow = values (0f ∷ 0f ∷ []) (0 ∷ [])
 window-values (WindowIs w) = values (w .ready ∷ w .due ∷ []) (1 ∷ [])
 
 -- ---- the two calls that change a plan
 
--- how many routes are left, steps, draws
+-- "A call returns r"; "Results carry steps and draws.": r, steps, draws
 abbrev pub reduction-values : Reduction → Values
 reduction-values x = values [] (x .routes ∷ x .counts .steps ∷ x .counts .draws ∷ [])
 
@@ -94,7 +93,7 @@ pub record Replied : Type 0 where
 abbrev pub replies : ℕ → List ℕ → List ℕ → List ℕ → Replied
 replies code counts lengths stops = record { said = says code [] counts; slices = slices-of lengths stops }
 
--- as a question; the plan is the call's, or stays where a slice or `given` does not fit
+-- said as by a question; the plan is as the call leaves it, or stays where a slice or `given` does not fit
 unfoldable pub plan-call : ℕ → List ℕ → Slices → Reply → Replied
 plan-call given counts first r =
     record {

@@ -22,10 +22,11 @@ has-max-duration given = eqb (given / 2 % 2) 1
 abbrev pub has-rest : ℕ → Bool
 has-rest given = eqb (given / 4 % 2) 1
 
--- "A limit is either none or a number; so is a break, with earliest, latest, duration."
+-- "A limit is either none or a number"
 abbrev pub limit-of : Bool → Float → Limit
 limit-of there most = cond there (LimitAt most) NoLimit
 
+-- "so is a break, with earliest, latest, duration"
 abbrev pub rest-of : Bool → Float → Float → Float → Rest
 rest-of there earliest latest duration = cond there (Break earliest latest duration) NoRest
 
