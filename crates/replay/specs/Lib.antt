@@ -1,7 +1,3 @@
--- What the replay compares and counts.
--- answers as they are stored
-pub mod Answers
--- what a stored call asks
-pub mod Asked
+-- What the replay counts.
 -- the counts
 pub mod Tally

@@ -5,9 +5,6 @@
 ghost use mathlib.Core.Path.{_≡_};
 ghost use Prim.Native.Nat.{_<_};
 ghost use lib.ListN.{length};
-use crate::answers::Stored;
-use crate::changes::change_agrees;
-use crate::questions::question_agrees;
 use crate::tally::note;
 use models::vehicle::Vehicle;
 use stored::slices::read_u16;
@@ -16,6 +13,9 @@ use stored::text::FAULT;
 use stored::text::number;
 use stored::text::number_to;
 use stored::values::float_of;
+use verdict::answers::Stored;
+use verdict::changes::change_agrees;
+use verdict::questions::question_agrees;
 
 // An answer, and the position after it.
 struct ReadAnswer {

@@ -3,11 +3,8 @@
 ghost use mathlib.Core.Path.{_≡_};
 ghost use lib.ListN.{length};
 
-mod answers;
 mod calls;
 mod cases;
-mod changes;
-mod questions;
 mod tally;
 
 use cases::case_at;

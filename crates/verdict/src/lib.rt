@@ -1,0 +1,4 @@
+// The verdict on a stored call: whether the planner's answer, and the plan after it, are the stored ones.
+pub mod answers;
+pub mod changes;
+pub mod questions;
