@@ -100,14 +100,17 @@ extern "C" {
     ) -> u8;
 }
 
-/// Calls a declared function with its first arguments, the problem's slices and the vehicle's numbers.
+/// Calls a declared function: the slices that it writes, those that it reads, its numbers, then the problem's slices and the vehicle's
+/// numbers.
 macro_rules! called {
-    ($name:ident($($first:expr),* $(,)?), $problem:expr, $numbers:expr) => {{
+    ($name:ident, [$($written:ident),*], [$($read:ident),*], ($($number:expr),*), $problem:expr, $numbers:expr) => {{
         let (p, v): (&Problem, &Numbers) = ($problem, $numbers);
         // every pointer goes with the length of the slice that it is taken from, and the port keeps none
         unsafe {
             $name(
-                $($first,)*
+                $($written.as_mut_ptr(), $written.len(),)*
+                $($read.as_ptr(), $read.len(),)*
+                $($number,)*
                 p.places,
                 p.demand.as_ptr(),
                 p.demand.len(),
@@ -151,121 +154,49 @@ pub struct Lent<'a> {
 
 pub fn minimise(lent: Lent, tape: &[u64], limit: u64, clock: u64, p: &Problem, v: &Numbers) -> u8 {
     let Lent { lengths, stops, work, cells, counts } = lent;
-    called!(
-        cobrwydd_minimise(
-            lengths.as_mut_ptr(),
-            lengths.len(),
-            stops.as_mut_ptr(),
-            stops.len(),
-            work.as_mut_ptr(),
-            work.len(),
-            cells.as_mut_ptr(),
-            cells.len(),
-            counts.as_mut_ptr(),
-            counts.len(),
-            tape.as_ptr(),
-            tape.len(),
-            limit,
-            clock
-        ),
-        p,
-        v
-    )
+    called!(cobrwydd_minimise, [lengths, stops, work, cells, counts], [tape], (limit, clock), p, v)
 }
 
+/// The f64 work cells stand before the counts, and are only read.
 pub fn eliminate(lent: Lent, p: &Problem, v: &Numbers) -> u8 {
     let Lent { lengths, stops, work, cells, counts } = lent;
-    called!(
-        cobrwydd_eliminate(
-            lengths.as_mut_ptr(),
-            lengths.len(),
-            stops.as_mut_ptr(),
-            stops.len(),
-            work.as_mut_ptr(),
-            work.len(),
-            cells.as_ptr(),
-            cells.len(),
-            counts.as_mut_ptr(),
-            counts.len()
-        ),
-        p,
-        v
-    )
+    called!(cobrwydd_eliminate, [lengths, stops, work, cells, counts], [], (), p, v)
 }
 
 /// The calls as words, and their tapes; `lent.counts` is for the answers, four words a call, and `history` for both
 /// slices after each.
 pub fn run_calls(lent: Lent, history: &mut [u16], calls: &[u64], tapes: &[u64], p: &Problem, v: &Numbers) -> u8 {
     let Lent { lengths, stops, work, cells, counts } = lent;
-    called!(
-        cobrwydd_run_calls(
-            lengths.as_mut_ptr(),
-            lengths.len(),
-            stops.as_mut_ptr(),
-            stops.len(),
-            work.as_mut_ptr(),
-            work.len(),
-            cells.as_mut_ptr(),
-            cells.len(),
-            counts.as_mut_ptr(),
-            counts.len(),
-            history.as_mut_ptr(),
-            history.len(),
-            calls.as_ptr(),
-            calls.len(),
-            tapes.as_ptr(),
-            tapes.len()
-        ),
-        p,
-        v
-    )
+    called!(cobrwydd_run_calls, [lengths, stops, work, cells, counts, history], [calls, tapes], (), p, v)
 }
 
 pub fn route_feasible(found: &mut [u64], route: &[u16], p: &Problem, v: &Numbers) -> u8 {
-    called!(cobrwydd_route_feasible(found.as_mut_ptr(), found.len(), route.as_ptr(), route.len()), p, v)
+    called!(cobrwydd_route_feasible, [found], [route], (), p, v)
 }
 
 pub fn route_eval(out: &mut [f64], found: &mut [u64], route: &[u16], p: &Problem, v: &Numbers) -> u8 {
-    called!(
-        cobrwydd_route_eval(out.as_mut_ptr(), out.len(), found.as_mut_ptr(), found.len(), route.as_ptr(), route.len()),
-        p,
-        v
-    )
+    called!(cobrwydd_route_eval, [out, found], [route], (), p, v)
 }
 
 pub fn effective_cost(out: &mut [f64], route: &[u16], p: &Problem, v: &Numbers) -> u8 {
-    called!(cobrwydd_effective_cost(out.as_mut_ptr(), out.len(), route.as_ptr(), route.len()), p, v)
+    called!(cobrwydd_effective_cost, [out], [route], (), p, v)
 }
 
 /// `rest` is the break's earliest, latest and duration.
 pub fn schedule(out: &mut [f64], found: &mut [u64], route: &[u16], rest: [f64; 3], p: &Problem, v: &Numbers) -> u8 {
-    called!(
-        cobrwydd_schedule(
-            out.as_mut_ptr(),
-            out.len(),
-            found.as_mut_ptr(),
-            found.len(),
-            route.as_ptr(),
-            route.len(),
-            rest[0],
-            rest[1],
-            rest[2]
-        ),
-        p,
-        v
-    )
+    called!(cobrwydd_schedule, [out, found], [route], (rest[0], rest[1], rest[2]), p, v)
 }
 
 pub fn route_distance(out: &mut [f64], route: &[u16], p: &Problem, v: &Numbers) -> u8 {
-    called!(cobrwydd_route_distance(out.as_mut_ptr(), out.len(), route.as_ptr(), route.len()), p, v)
+    called!(cobrwydd_route_distance, [out], [route], (), p, v)
 }
 
 pub fn lateness_bound(out: &mut [f64], p: &Problem, v: &Numbers) -> u8 {
-    called!(cobrwydd_lateness_bound(out.as_mut_ptr(), out.len()), p, v)
+    called!(cobrwydd_lateness_bound, [out], [], (), p, v)
 }
 
 pub fn gain_floor(out: &mut [f64], p: &Problem, v: &Numbers) -> u8 {
-    called!(cobrwydd_gain_floor(out.as_mut_ptr(), out.len()), p, v)
+    called!(cobrwydd_gain_floor, [out], [], (), p, v)
 }
 
 pub fn time_window_new(out: &mut [f64], found: &mut [u64], ready: f64, due: f64) -> u8 {
