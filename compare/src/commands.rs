@@ -1,6 +1,8 @@
 //! The commands: a run of the comparison, one case in full, cases with the original's answers, for people and for the program replay, and
 //! the time of both.
 
+use std::panic::{catch_unwind, AssertUnwindSafe};
+
 use comparison::model::Model;
 use comparison::original::Original;
 use comparison::ported::Port;
@@ -55,9 +57,15 @@ fn compare(count: u64, seed: u64) -> i32 {
     let mut model = Model::default();
     let mut fault = false;
     for side in [&mut original as &mut dyn Side, &mut Model::default(), &mut Port::default()] {
-        for number in cases::wrong(side) {
-            println!("case {number} of the twelve: the {} answers otherwise", side.name());
-            fault = true;
+        let wrong = catch_unwind(AssertUnwindSafe(|| cases::wrong(side)));
+        fault |= !matches!(&wrong, Ok(numbers) if numbers.is_empty());
+        match wrong {
+            Ok(numbers) => {
+                for number in numbers {
+                    println!("case {number} of the twelve: the {} answers otherwise", side.name());
+                }
+            }
+            Err(_) => println!("the twelve cases: the {} panicked", side.name()),
         }
     }
     let seen = run::run(&mut [&mut original, &mut model, &mut Port::default()], count, seed);
@@ -74,9 +82,9 @@ fn compare(count: u64, seed: u64) -> i32 {
         println!("never reached: {name}");
         fault = true;
     }
-    println!("{} of the calls put to the port again, in {} lists", seen.listed, seen.lists);
+    println!("{} of them put to the port again, in {} lists, {} differ", seen.listed, seen.lists, seen.lists_differ);
     println!("{} calls compared, {} differ", seen.calls, seen.differ);
-    (fault || seen.differ > 0) as i32
+    (fault || seen.differ > 0 || seen.lists_differ > 0) as i32
 }
 
 fn one_case(seed: u64, places: usize) -> i32 {

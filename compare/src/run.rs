@@ -17,9 +17,10 @@ pub struct Seen {
     pub calls: u64,
     pub differ: u64,
     pub cases: u64,
-    /// Lists of calls that were put to a side in one, and the calls in them.
+    /// Lists of calls that were put to a side in one, the calls in them, and the lists that differ.
     pub lists: u64,
     pub listed: u64,
+    pub lists_differ: u64,
     /// Accepted calls of each kind.
     pub accepted: [u64; KINDS.len()],
     /// Refused calls of each kind, by row.
@@ -91,24 +92,22 @@ fn run_list(side: &mut dyn Side, case: &Case, right: &[(Answer, Plan)], seen: &m
     let calls: Vec<&Call> = case.calls.iter().map(|asked| &asked.call).filter(|call| call.has_plan()).collect();
     let mut plan = case.plan.clone();
     let asked = catch_unwind(AssertUnwindSafe(|| side.list(&case.problem, &mut plan, &calls)));
-    let Ok(replies) = asked else {
-        println!("case {}: {} as a list of {} calls: panicked", case.seed, side.name(), calls.len());
-        seen.differ += 1;
-        return;
-    };
-    let Some(replies) = replies else { return };
-    seen.lists += 1;
-    seen.listed += calls.len() as u64;
     let lines = |replies: &[(Answer, Plan)]| -> Vec<String> {
         replies.iter().map(|(answer, plan)| format!("{} {:?} {:?}", answer.line(), plan.lengths, plan.stops)).collect()
     };
+    let said = match asked {
+        Ok(None) => return,
+        Ok(Some(replies)) => lines(&replies),
+        Err(_) => vec![Answer::Panicked.line()],
+    };
+    seen.lists += 1;
+    seen.listed += calls.len() as u64;
     let last = right.last().map_or(&case.plan, |reply| &reply.1);
-    if lines(&replies) == lines(right) && plan == *last {
-        return;
-    }
-    seen.differ += 1;
-    if seen.differ <= 5 {
-        println!("case {}: {} as a list of {} calls: {:?}", case.seed, side.name(), calls.len(), lines(&replies));
+    if said != lines(right) || plan != *last {
+        seen.lists_differ += 1;
+        if seen.lists_differ <= 5 {
+            println!("case {}: {} as a list of {} calls: {said:?}", case.seed, side.name(), calls.len());
+        }
     }
 }
 
@@ -167,9 +166,12 @@ fn shortened(line: &str) -> String {
 }
 
 impl Seen {
-    /// Kinds never accepted, and kinds never refused for a row that they have.
+    /// Kinds never accepted, kinds never refused for a row that they have, and lists where there was none.
     pub fn missing(&self) -> Vec<String> {
         let mut missing = vec![];
+        if self.listed == 0 {
+            missing.push("a list of calls".to_string());
+        }
         for (kind, name) in KINDS.iter().enumerate() {
             if self.accepted[kind] == 0 {
                 missing.push(format!("{name} accepted"));
