@@ -1,6 +1,6 @@
 -- The vehicle of numbers, as the code makes it. Assumes nothing.
 use Prim.Native.Nat.{ℕ}
-use mathlib.Core.Path.{_≡_, refl, ap, _∙_}
+use mathlib.Core.Path.{_≡_, ap, _∙_}
 use lib.IntN.{ℤ}
 use lib.Ieee.{Float}
 use mir.Syntax.{w32}
