@@ -1,5 +1,6 @@
-//! Lays the original's files, unchanged, and our stand-ins out as one module tree in OUT_DIR.
+//! Links the port, and lays the original's files, unchanged, and our stand-ins out as one module tree in OUT_DIR.
 //!
+//! The port is the archive that `rt staticlib cobrwydd` writes, or the one that COBRWYDD_PORT names, or a shared library.
 //! The original is read from the folder in COBRWYDD_RUST, by default ../shared/docs/src beside the repository.
 //! Where one of its files is missing, the tree is empty, `cfg(original)` is not set, and the program says so when run.
 
@@ -40,6 +41,7 @@ fn main() {
     println!("cargo::rerun-if-changed=stand-ins");
 
     let here = PathBuf::from(env::var_os("CARGO_MANIFEST_DIR").unwrap());
+    link_port(&here);
     let out = PathBuf::from(env::var_os("OUT_DIR").unwrap());
     let folder = match env::var_os("COBRWYDD_RUST") {
         Some(folder) => PathBuf::from(folder),
@@ -73,6 +75,28 @@ fn main() {
     }
     fs::write(out.join("tree.rs"), root).unwrap();
     println!("cargo::rustc-cfg=original");
+}
+
+/// Links the port's archive; where it is not there the build ends and says what makes it.
+fn link_port(here: &Path) {
+    println!("cargo::rerun-if-env-changed=COBRWYDD_PORT");
+    let archive = match env::var_os("COBRWYDD_PORT") {
+        Some(archive) => PathBuf::from(archive),
+        None => here.join("../target/staticlib/libcobrwydd.a"),
+    };
+    println!("cargo::rerun-if-changed={}", archive.display());
+    let Ok(archive) = archive.canonicalize() else {
+        println!("cargo::error=the port is not in {}: run 'rt staticlib cobrwydd' first", archive.display());
+        return;
+    };
+    let folder = archive.parent().unwrap().display();
+    println!("cargo::rustc-link-search=native={folder}");
+    if archive.extension().is_some_and(|end| end == "so") {
+        println!("cargo::rustc-link-lib=dylib=cobrwydd");
+        println!("cargo::rustc-link-arg=-Wl,-rpath,{folder}");
+    } else {
+        println!("cargo::rustc-link-lib=static=cobrwydd");
+    }
 }
 
 /// Copies a file byte for byte, and says whether it was there.

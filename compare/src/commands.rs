@@ -1,7 +1,9 @@
-//! The commands: a run of the comparison, one case in full, and cases with the original's answers, for people and for the program replay.
+//! The commands: a run of the comparison, one case in full, cases with the original's answers, for people and for the program replay, and
+//! the time of both.
 
 use comparison::model::Model;
 use comparison::original::Original;
+use comparison::ported::Port;
 use comparison::problem::Side;
 use comparison::{answers, cases, generate, replay, run, ORIGINAL};
 
@@ -11,7 +13,8 @@ compare --answers N SEED [PLACES] [STEPS]
                                  prints N cases with the original's answers, of at most PLACES places (8) each,
                                  and with at most STEPS steps (100) in a call
 compare --replay N SEED [PLACES] [STEPS]
-                                 prints N such cases, the twelve and some for every row, for the program replay";
+                                 prints N such cases, the twelve and some for every row, for the program replay
+compare --time [COUNT] [SEED]    the time that original and port take for COUNT calls (20000) of SEED (1)";
 
 /// Runs the command that the words name, and returns its exit status.
 pub fn run(words: &[String]) -> i32 {
@@ -31,6 +34,9 @@ pub fn run(words: &[String]) -> i32 {
         ("--answers", [count, seed]) => print_answers(*count, *seed, 8, 100),
         ("--answers", [count, seed, places]) => print_answers(*count, *seed, *places as usize, 100),
         ("--answers", [count, seed, places, steps]) => print_answers(*count, *seed, *places as usize, *steps),
+        ("--time", []) => time(20_000, 1),
+        ("--time", [count]) => time(*count, 1),
+        ("--time", [count, seed]) => time(*count, *seed),
         ("--replay", [count, seed]) => print_replay(*count, *seed, 8, 100),
         ("--replay", [count, seed, places]) => print_replay(*count, *seed, *places as usize, 100),
         ("--replay", [count, seed, places, steps]) => print_replay(*count, *seed, *places as usize, *steps),
@@ -44,17 +50,17 @@ fn wrong_usage() -> i32 {
 }
 
 fn compare(count: u64, seed: u64) -> i32 {
-    println!("the original in {ORIGINAL} against the model: {count} calls, seed {seed}");
-    let mut original = Original;
+    println!("the original in {ORIGINAL} against the model and the port: {count} calls, seed {seed}");
+    let mut original = Original::default();
     let mut model = Model::default();
     let mut fault = false;
-    for side in [&mut original as &mut dyn Side, &mut Model::default()] {
+    for side in [&mut original as &mut dyn Side, &mut Model::default(), &mut Port::default()] {
         for number in cases::wrong(side) {
             println!("case {number} of the twelve: the {} answers otherwise", side.name());
             fault = true;
         }
     }
-    let seen = run::run(&mut [&mut original, &mut model], count, seed);
+    let seen = run::run(&mut [&mut original, &mut model, &mut Port::default()], count, seed);
     println!("\nevents reached");
     model.events.print();
     println!();
@@ -68,6 +74,7 @@ fn compare(count: u64, seed: u64) -> i32 {
         println!("never reached: {name}");
         fault = true;
     }
+    println!("{} of the calls put to the port again, in {} lists", seen.listed, seen.lists);
     println!("{} calls compared, {} differ", seen.calls, seen.differ);
     (fault || seen.differ > 0) as i32
 }
@@ -77,7 +84,7 @@ fn one_case(seed: u64, places: usize) -> i32 {
         return wrong_usage();
     }
     let case = generate::case(seed, places);
-    for side in [&mut Original as &mut dyn Side, &mut Model::default()] {
+    for side in [&mut Original::default() as &mut dyn Side, &mut Model::default(), &mut Port::default()] {
         println!("# {}", side.name());
         answers::print_case(side, &case);
     }
@@ -88,7 +95,13 @@ fn print_answers(count: u64, seed: u64, places: usize, steps: u64) -> i32 {
     if places == 0 {
         return wrong_usage();
     }
-    answers::print(&mut Original, count, seed, places, steps);
+    answers::print(&mut Original::default(), count, seed, places, steps);
+    0
+}
+
+fn time(count: u64, seed: u64) -> i32 {
+    println!("the time of {count} calls, seed {seed}, in milliseconds");
+    run::time(&mut Original::default(), &mut Port::default(), count, seed).print();
     0
 }
 
@@ -96,6 +109,6 @@ fn print_replay(count: u64, seed: u64, places: usize, steps: u64) -> i32 {
     if places == 0 {
         return wrong_usage();
     }
-    replay::print(&mut Original, count, seed, places, steps);
+    replay::print(&mut Original::default(), count, seed, places, steps);
     0
 }

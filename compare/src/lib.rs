@@ -1,4 +1,4 @@
-//! The comparison: the original Rust and our own model of document 01's steps, driven with the same calls.
+//! The comparison: the original Rust, our own model of document 01's steps and the port, driven with the same calls.
 //!
 //! The original's files say `rand`, `u_metaheur` and `crate::..`, so they are compiled at the root of this crate, and
 //! the two names lead back to it, where the stand-ins are.
@@ -14,9 +14,12 @@ pub mod checks;
 pub mod claim;
 pub mod events;
 pub mod generate;
+pub mod listed;
 pub mod model;
 #[cfg(original)]
 pub mod original;
+pub mod port;
+pub mod ported;
 pub mod problem;
 pub mod random;
 pub mod replay;

@@ -1,5 +1,7 @@
 //! The side of the original: its own functions on its own types, behind the entry checks.
 
+use std::time::{Duration, Instant};
+
 use crate::checks::refusal;
 use crate::distance::DistanceMatrix;
 use crate::evaluation::{effective_cost, lateness_bound, route_eval, route_feasible, RouteEvaluator, RouteLimits};
@@ -8,7 +10,10 @@ use crate::models::{Customer, TimeWindow, Vehicle, VehicleBreak};
 use crate::problem::{Answer, Break, Call, Eval, Plan, Problem, Side};
 use crate::stand_ins::{Deadline, Tape};
 
-pub struct Original;
+#[derive(Default)]
+pub struct Original {
+    took: Duration,
+}
 
 impl Side for Original {
     fn name(&self) -> &'static str {
@@ -20,22 +25,27 @@ impl Side for Original {
             return Answer::Refused(number);
         }
         if let Call::TimeWindowNew { ready, due } = call {
-            return Answer::Window(TimeWindow::new(*ready, *due).map(|window| (window.ready(), window.due())));
+            let began = Instant::now();
+            let window = TimeWindow::new(*ready, *due);
+            self.took = began.elapsed();
+            return Answer::Window(window.map(|window| (window.ready(), window.due())));
         }
         let places = places(problem);
         let distances = distances(problem);
         let vehicle = vehicle(problem);
         let limits = RouteLimits::of(&vehicle);
         let depot = vehicle.depot_id();
-        match call {
+        let routes = if call.has_plan() { plan.routes() } else { vec![] };
+        let began = Instant::now();
+        let answer = match call {
             Call::Minimise { limit, tape, clock, .. } => {
                 let mut tape = Tape::new(tape);
                 let clock = Deadline::new(*clock);
-                let routes = minimize_routes(plan.routes(), &places, &distances, &vehicle, *limit, &mut tape, &clock);
+                let routes = minimize_routes(routes, &places, &distances, &vehicle, *limit, &mut tape, &clock);
                 Answer::Minimised { routes: plan.write(&routes), steps: clock.steps(), draws: tape.draws }
             }
             Call::Eliminate { .. } => {
-                let routes = eliminate_routes(plan.routes(), &places, &distances, &vehicle);
+                let routes = eliminate_routes(routes, &places, &distances, &vehicle);
                 Answer::Eliminated { routes: plan.write(&routes) }
             }
             Call::RouteFeasible { route } => {
@@ -60,7 +70,13 @@ impl Side for Original {
             Call::LatenessBound => Answer::Value(lateness_bound(&places, &distances)),
             Call::GainFloor => Answer::Value(gain_floor(&distances)),
             Call::TimeWindowNew { .. } => unreachable!("answered above"),
-        }
+        };
+        self.took = began.elapsed();
+        answer
+    }
+
+    fn took(&self) -> Duration {
+        self.took
     }
 }
 

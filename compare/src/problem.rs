@@ -1,6 +1,7 @@
 //! The data of a call, as document 01 lends it, the calls, their answers, and what a side of the comparison is.
 
 use std::fmt::Write;
+use std::time::Duration;
 
 /// The driver's break.
 #[derive(Clone, Copy, Debug, PartialEq)]
@@ -257,4 +258,15 @@ pub trait Side {
 
     /// Answers a call. A call other than minimise and eliminate has no plan and leaves it alone; so does a refusal.
     fn call(&mut self, problem: &Problem, plan: &mut Plan, call: &Call) -> Answer;
+
+    /// The answers to a list of minimise and eliminate calls in one, each with the plan after it; none where the side
+    /// has no such call.
+    fn list(&mut self, _problem: &Problem, _plan: &mut Plan, _calls: &[&Call]) -> Option<Vec<(Answer, Plan)>> {
+        None
+    }
+
+    /// How long the last call took, without what the side makes ready for it and reads out of it.
+    fn took(&self) -> Duration {
+        Duration::ZERO
+    }
 }

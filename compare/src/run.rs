@@ -1,6 +1,7 @@
 //! A run: random calls put to every side, each answer and both plan slices held against the first side's.
 
 use std::panic::{catch_unwind, AssertUnwindSafe};
+use std::time::Duration;
 
 use crate::answers::call_line;
 use crate::claim::broken;
@@ -16,6 +17,9 @@ pub struct Seen {
     pub calls: u64,
     pub differ: u64,
     pub cases: u64,
+    /// Lists of calls that were put to a side in one, and the calls in them.
+    pub lists: u64,
+    pub listed: u64,
     /// Accepted calls of each kind.
     pub accepted: [u64; KINDS.len()],
     /// Refused calls of each kind, by row.
@@ -36,6 +40,7 @@ pub fn run(sides: &mut [&mut dyn Side], count: u64, seed: u64) -> Seen {
 /// Compares the calls of one case, up to `count` in all.
 pub fn run_case(sides: &mut [&mut dyn Side], case: &Case, count: u64, seen: &mut Seen) {
     let mut plan = case.plan.clone();
+    let mut right_replies = vec![];
     for (index, asked) in case.calls.iter().enumerate() {
         if seen.calls == count {
             return;
@@ -62,16 +67,88 @@ pub fn run_case(sides: &mut [&mut dyn Side], case: &Case, count: u64, seen: &mut
                 faults.push(format!("{}: {} {:?} {:?}", side.name(), answer.line(), other.lengths, other.stops));
             }
         }
-        if faults.is_empty() {
-            continue;
-        }
-        seen.differ += 1;
-        if seen.differ <= 5 {
-            println!("case {} call {index}: {}", case.seed, shortened(&call_line(&asked.call)));
-            println!("  {}: {} {:?} {:?}", sides[0].name(), right.line(), plan.lengths, plan.stops);
-            for fault in faults {
-                println!("  {fault}");
+        if !faults.is_empty() {
+            seen.differ += 1;
+            if seen.differ <= 5 {
+                println!("case {} call {index}: {}", case.seed, shortened(&call_line(&asked.call)));
+                println!("  {}: {} {:?} {:?}", sides[0].name(), right.line(), plan.lengths, plan.stops);
+                for fault in faults {
+                    println!("  {fault}");
+                }
             }
+        }
+        if asked.call.has_plan() {
+            right_replies.push((right, plan.clone()));
+        }
+    }
+    for side in sides[1..].iter_mut() {
+        run_list(*side, case, &right_replies, seen);
+    }
+}
+
+/// Puts the case's minimise and eliminate calls to a side as one list, and compares what it records of each.
+fn run_list(side: &mut dyn Side, case: &Case, right: &[(Answer, Plan)], seen: &mut Seen) {
+    let calls: Vec<&Call> = case.calls.iter().map(|asked| &asked.call).filter(|call| call.has_plan()).collect();
+    let mut plan = case.plan.clone();
+    let asked = catch_unwind(AssertUnwindSafe(|| side.list(&case.problem, &mut plan, &calls)));
+    let Ok(replies) = asked else {
+        println!("case {}: {} as a list of {} calls: panicked", case.seed, side.name(), calls.len());
+        seen.differ += 1;
+        return;
+    };
+    let Some(replies) = replies else { return };
+    seen.lists += 1;
+    seen.listed += calls.len() as u64;
+    let lines = |replies: &[(Answer, Plan)]| -> Vec<String> {
+        replies.iter().map(|(answer, plan)| format!("{} {:?} {:?}", answer.line(), plan.lengths, plan.stops)).collect()
+    };
+    let last = right.last().map_or(&case.plan, |reply| &reply.1);
+    if lines(&replies) == lines(right) && plan == *last {
+        return;
+    }
+    seen.differ += 1;
+    if seen.differ <= 5 {
+        println!("case {}: {} as a list of {} calls: {:?}", case.seed, side.name(), calls.len(), lines(&replies));
+    }
+}
+
+/// How many calls of each kind two sides have accepted, and how long each side took for them.
+#[derive(Default)]
+pub struct Times {
+    calls: [u64; KINDS.len()],
+    took: [[Duration; 2]; KINDS.len()],
+}
+
+/// The time of two sides for `count` calls of a seed, each call put to one after the other.
+pub fn time(first: &mut dyn Side, second: &mut dyn Side, count: u64, seed: u64) -> Times {
+    let mut times = Times::default();
+    let (mut calls, mut cases) = (0, 0);
+    while calls < count {
+        let case = case(case_seed(seed, cases), MOST_PLACES);
+        let mut plan = case.plan.clone();
+        for asked in case.calls.iter().take((count - calls) as usize) {
+            let kind = asked.call.kind();
+            let mut other = plan.clone();
+            let accepted = first.call(&case.problem, &mut plan, &asked.call).refusal().is_none();
+            second.call(&case.problem, &mut other, &asked.call);
+            if accepted {
+                times.calls[kind] += 1;
+                times.took[kind][0] += first.took();
+                times.took[kind][1] += second.took();
+            }
+            calls += 1;
+        }
+        cases += 1;
+    }
+    times
+}
+
+impl Times {
+    pub fn print(&self) {
+        println!("{:17}{:>9}{:>12}{:>12}", "call", "accepted", "original", "port");
+        for (kind, name) in KINDS.iter().enumerate() {
+            let [first, second] = self.took[kind].map(|took| took.as_secs_f64() * 1e3);
+            println!("{name:17}{:>9}{first:>12.3}{second:>12.3}", self.calls[kind]);
         }
     }
 }

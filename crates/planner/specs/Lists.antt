@@ -42,9 +42,11 @@ unfoldable pub decoded : List Words → List ℕ → List Call
 decoded [] tapes = []
 decoded (w ∷ ws) tapes = call-of w tapes ∷ decoded ws (drop (w .tape) tapes)
 
+-- how many calls so many words are
 abbrev pub count-of : List ℕ → ℕ
 count-of calls = length calls / 6
 
+-- the list of calls that the words and the tapes ask for
 abbrev pub calls-in : List ℕ → List ℕ → List Call
 calls-in calls tapes = decoded (words-of (count-of calls) calls) tapes
 
@@ -76,6 +78,7 @@ abbrev pub buffers : List ℕ → List ℕ → List ℕ → List Float → List 
 buffers lengths stops work cells answers history =
     record { lengths = lengths; stops = stops; work = work; cells = cells; answers = answers; history = history }
 
+-- "A plan is two lent slices"
 abbrev pub plan-slices : Buffers → Slices
 plan-slices b = slices-of (b .lengths) (b .stops)
 
@@ -153,6 +156,7 @@ pub record All-run (n : ℕ) (p : Problem) (calls tapes : List ℕ) (before afte
   pub plain : after .answers ≡ rows answer-row (replies-in n after)
   pub last : plan-slices after ≡ last-slices (plan-slices before) (replies-in n after)
 
+-- what `run_calls` promises by its answer
 abbrev pub Leaves : Ran → Problem → List ℕ → List ℕ → Buffers → Buffers → Type 0
 Leaves Malformed p calls tapes before after = Untouched calls tapes before after
 Leaves (RanAll n) p calls tapes before after = All-run n p calls tapes before after

@@ -1,0 +1,51 @@
+-- `calls::cobrwydd_eliminate` meets its contract.
+use Rattle.cobrwydd.proofs.VehicleLaws.{vehicle-kept}
+use Rattle.cobrwydd.proofs.AnswerLaws.{numbers-fit, misfit-replied, call-replied}
+use borrow.Author.Needs.{needs}
+use Rattle.cobrwydd.proofs.calls.cobrwydd_eliminate.Statement.{statement}
+use Rattle.cobrwydd.proofs.calls.cobrwydd_eliminate.Tie as tie
+
+misfit-requires : tie.Need-misfit-requires
+misfit-requires c κs = search needs
+
+returns : tie.Need-returns
+returns c = misfit-replied _ _ _ _ (c .before .misfit .ensures) _ (c .if1 .taken)
+
+vehicle-of-requires : tie.Need-vehicle-of-requires
+vehicle-of-requires c κs = search needs
+
+eliminate-requires : tie.Need-eliminate-requires
+eliminate-requires c κs = search needs
+
+put-reply-requires : tie.Need-put-reply-requires
+put-reply-requires c κs = numbers-fit _ _ _ _ _ _ (c .before .before .before .before .before .before .before .before .before .before .before .before .before .misfit .ensures) (c .before .before .before .before .before .before .before .before .before .before .before .before .if1 .left)
+
+same-length : tie.Need-same-length
+same-length c = search needs
+
+same-length-2 : tie.Need-same-length-2
+same-length-2 c = search needs
+
+same-length-3 : tie.Need-same-length-3
+same-length-3 c = search needs
+
+same-length-4 : tie.Need-same-length-4
+same-length-4 c = search needs
+
+returns-2 : tie.Need-returns-2
+returns-2 c = rw (← vehicle-kept _ _ _ _ _ _ _ _ _ _ (c .before .before .before .before .before .before .before .before .before .before .before .before .before .before .before .before .before .before .before .before .before .before .before .before .before .before .before .before .before .fits .capacity) _ (c .before .before .before .before .before .before .before .before .before .before .before .before .before .before .vehicle-of .ensures)) (call-replied _ _ _ _ (c .before .before .before .before .before .before .before .before .before .before .before .before .before .before .before .before .misfit .ensures) (c .before .before .before .before .before .before .before .before .before .before .before .before .before .before .before .if1 .left) _ _ _ _ _ (c .before .before .put-reply .ensures) (c .before .before .before .before .before .before .before .before .before .before .eliminate .ensures))
+
+pub cobrwydd-eliminate-spec : {M : Type 1} → statement M
+cobrwydd-eliminate-spec =
+    tie.close
+    (tie.spec
+    misfit-requires
+    returns
+    vehicle-of-requires
+    eliminate-requires
+    put-reply-requires
+    same-length
+    same-length-2
+    same-length-3
+    same-length-4
+    returns-2)

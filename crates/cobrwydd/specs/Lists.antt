@@ -1,0 +1,20 @@
+-- A list of calls in one call of the C interface. Assumes nothing.
+use Prim.Native.Nat.{ℕ}
+use mathlib.Core.Path.{_≡_}
+use mathlib.Core.List.{List}
+use mathlib.Core.Bool.{cond}
+use lib.ListN.{length}
+use lib.Dec.{eqb}
+use Rattle.models.specs.Problem.{Problem}
+use Rattle.planner.specs.Lists.{Buffers, well-formed, calls-in, All-run}
+use Rattle.cobrwydd.specs.Said.{misfit}
+
+-- 101 where `given` is over 7, then 102 where the words of the list or the lengths of the slices do not fit together, else 0
+unfoldable pub list-code : ℕ → List ℕ → List ℕ → Buffers → ℕ
+list-code given calls tapes before = cond (eqb (misfit 0 0 0 0 given) 0) (cond (well-formed calls tapes before) 0 102) (misfit 0 0 0 0 given)
+
+-- what the call returns, and what it leaves: demand 3 of what is recorded, or everything as it was
+pub record Ran-list (code given : ℕ) (p : Problem) (calls tapes : List ℕ) (before after : Buffers) : Type 0 where
+  pub number : code ≡ list-code given calls tapes before
+  pub ran : code ≡ 0 → All-run (length (calls-in calls tapes)) p calls tapes before after
+  pub kept : (code ≡ 0 → ⊥) → after ≡ before
