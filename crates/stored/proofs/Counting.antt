@@ -1,8 +1,8 @@
 -- A count within a list. Assumes nothing.
 use Prim.Native.Nat.{ℕ, _≤_}
-use mathlib.Core.Path.{_≡_, sym}
+use mathlib.Core.Path.{sym}
 use mathlib.Core.List.{List}
-use lib.ListN.{length, take, length-take}
+use lib.ListN.{length}
 use lib.Seq.{length-take-le}
 use Rattle.stored.specs.Counts.{Counts}
 

@@ -1,6 +1,6 @@
 -- The calls that change a plan: which is asked, and what is compared after it. Assumes nothing.
 use Prim.Native.Nat.{ℕ}
-use mathlib.Core.Path.{_≡_, refl, sym, ap, _∙_}
+use mathlib.Core.Path.{_≡_, sym, ap, _∙_}
 use mathlib.Core.List.{List}
 use mathlib.Core.Bool.{Bool, true, false, _&&_}
 use Rattle.laws.specs.Picks.{pick-eq, pick-ne}

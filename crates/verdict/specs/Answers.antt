@@ -15,6 +15,7 @@ use Rattle.local_search.specs.declared.rounds.Reduction.{Reduction}
 use Rattle.planner.specs.Calls.{Answer, refused, answered}
 use Rattle.verdict.specs.declared.answers.Stored.{Stored}
 
+-- a tag and six numbers
 abbrev pub stored : ℕ → ℕ → ℕ → ℕ → ℕ → ℕ → ℕ → Stored
 stored t a b c d e f = record { tag = t; a = a; b = b; c = c; d = d; e = e; f = f }
 
@@ -26,12 +27,12 @@ bits x = toBits binary64 x
 abbrev pub refusal-stored : ℕ → Stored
 refusal-stored n = stored 0 n 0 0 0 0 0
 
--- whether a route passes: 0 or 1
+-- `route_feasible`: 0 or 1
 abbrev pub checked-stored : Answer Bool → Stored
 checked-stored (refused n) = refusal-stored n
 checked-stored (answered b) = stored 1 (cond b 1 0) 0 0 0 0 0
 
--- a float
+-- `effective_cost`, `route_distance`, `lateness_bound`, `gain_floor`: a float
 abbrev pub number-stored : Answer Float → Stored
 number-stored (refused n) = refusal-stored n
 number-stored (answered x) = stored 1 (bits x) 0 0 0 0 0
@@ -46,11 +47,12 @@ abbrev pub eval-stored : Eval → Stored
 eval-stored Infeasible = stored 1 0 0 0 0 0 0
 eval-stored (Feasible e) = route-stored e (e .rest)
 
+-- `route_eval` and `schedule`
 abbrev pub evaluated-stored : Answer Eval → Stored
 evaluated-stored (refused n) = refusal-stored n
 evaluated-stored (answered e) = eval-stored e
 
--- no window is tag 1, a window tag 2
+-- `TimeWindow::new`: no window is tag 1, a window tag 2
 abbrev pub window-stored : Window → Stored
 window-stored NoWindow = stored 1 0 0 0 0 0 0
 window-stored (Is w) = stored 2 (bits (w .ready)) (bits (w .due)) 0 0 0 0
@@ -62,9 +64,11 @@ reply-stored (answered d) = stored 1 (d .routes) (d .counts .steps) (d .counts .
 
 -- ---- the same
 
+-- the last three numbers of two answers
 abbrev pub same-rest : Stored → Stored → Bool
 same-rest x y = eqb (x .d) (y .d) && (eqb (x .e) (y .e) && eqb (x .f) (y .f))
 
+-- all seven
 abbrev pub same-stored : Stored → Stored → Bool
 same-stored x y = eqb (x .tag) (y .tag) && (eqb (x .a) (y .a) && (eqb (x .b) (y .b) && (eqb (x .c) (y .c) && same-rest x y)))
 

@@ -2,7 +2,7 @@
 use Prim.Native.Nat.{ℕ}
 use mathlib.Core.List.{List}
 use mathlib.Core.Bool.{Bool, cond, _&&_}
-use lib.Dec.{eqb, ltb}
+use lib.Dec.{eqb}
 use lib.Ieee.{Float}
 use Rattle.models.specs.Problem.{Problem}
 use Rattle.plan.specs.Plan.{Slices}
@@ -33,20 +33,23 @@ question kind p route x y z =
     (cond (eqb kind 9) (window-stored (public-time-window-new x y))
     (route-question kind p route x y z)))
 
--- a call that changes the plan
+-- a call that changes the plan: any kind but 0 is eliminate
 unfoldable pub change : ℕ → Problem → Slices → Allowance → Work → Reply
 change kind p s given w = cond (eqb kind 0) (public-minimise p s given w) (public-eliminate p s w)
 
--- whether a reply is the stored answer with the stored plan, both slices whole; and the plan for the next call
+-- a verdict, and both slices for the next call: "each later one gets both whole as the last call left them"
 pub record Replayed : Type 0 where
   pub agrees : Bool
   pub slices : Slices
 
+-- "both slices whole"
 abbrev pub same-plan : Slices → List ℕ → List ℕ → Bool
 same-plan s lengths stops = same-cells (s .lengths) lengths && same-cells (s .stops) stops
 
+-- whether a reply is the stored answer with the stored plan
 abbrev pub replayed : Reply → Stored → List ℕ → List ℕ → Replayed
 replayed y answer lengths stops = record { agrees = same-stored (reply-stored (y .answer)) answer && same-plan (y .slices) lengths stops; slices = y .slices }
 
+-- the code's verdict, with the slices as it leaves them
 abbrev pub replayed-as : Bool → List ℕ → List ℕ → Replayed
 replayed-as b lengths stops = record { agrees = b; slices = slices-of lengths stops }
