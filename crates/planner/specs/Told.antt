@@ -1,5 +1,6 @@
 -- What the enums of the code say, as answers of the public calls. Assumes nothing.
 use Prim.Native.Nat.{ℕ}
+use mathlib.Core.Path.{_≡_}
 use mathlib.Core.Bool.{Bool}
 use mathlib.Core.List.{List}
 use lib.Ieee.{Float}
@@ -45,3 +46,8 @@ work-of small wide = record { u16-cells = small; f64-cells = wide }
 -- the answer, with both slices as the call leaves them
 abbrev pub reply-of : Replied → List ℕ → List ℕ → Reply
 reply-of a lengths stops = record { answer = replied-told a; slices = slices-of lengths stops }
+
+-- "A refusal .. changes no buffer": of the cells that are lent to work in, before and after. "Work cells after an accepted call are free."
+abbrev pub Free-if-answered : {A : Type 0} → Replied → A → A → Type 0
+Free-if-answered (NotReplied n) before after = after ≡ before
+Free-if-answered (RepliedAs d) before after = Unit

@@ -4,7 +4,7 @@ ghost use lib.ListN.{length};
 ghost use Rattle.models.specs.Problem.{problem};
 ghost use Rattle.ejection_pool.specs.Running.{allowance};
 ghost use Rattle.planner.specs.Calls.{public-minimise, public-eliminate};
-ghost use Rattle.planner.specs.Told.{reply-of, slices-of, work-of};
+ghost use Rattle.planner.specs.Told.{reply-of, slices-of, work-of, Free-if-answered};
 use entry::calls::eliminate_refusal;
 use entry::calls::minimise_refusal;
 use local_search::rounds::Counts;
@@ -40,9 +40,11 @@ pub fn minimise(
     times: &[f64],
     vehicle: Vehicle,
 ) -> Replied
-    ensures { λ a. ⌜ reply-of a (now (lengths .exit)) (now (stops .exit)) ≡ public-minimise (problem n (now (demand .entry)) (now (service .entry)) (now (ready .entry)) (now (due .entry)) (now (penalty .entry)) (now (flags .entry))
+    ensures reply { λ a. ⌜ reply-of a (now (lengths .exit)) (now (stops .exit)) ≡ public-minimise (problem n (now (demand .entry)) (now (service .entry)) (now (ready .entry)) (now (due .entry)) (now (penalty .entry)) (now (flags .entry))
         (now (distances .entry)) (now (times .entry)) vehicle)
         (slices-of (now (lengths .entry)) (now (stops .entry))) (allowance limit clock (now (tape .entry))) (work-of (length (now (work .entry))) (length (now (cells .entry)))) ⌝ }
+    ensures work { λ a. ⌜ Free-if-answered a (now (work .entry)) (now (work .exit)) ⌝ }
+    ensures cells { λ a. ⌜ Free-if-answered a (now (cells .entry)) (now (cells .exit)) ⌝ }
 {
     let r = minimise_refusal(
         lengths,
@@ -104,9 +106,10 @@ pub fn eliminate(
     times: &[f64],
     vehicle: Vehicle,
 ) -> Replied
-    ensures { λ a. ⌜ reply-of a (now (lengths .exit)) (now (stops .exit)) ≡ public-eliminate (problem n (now (demand .entry)) (now (service .entry)) (now (ready .entry)) (now (due .entry)) (now (penalty .entry)) (now (flags .entry))
+    ensures reply { λ a. ⌜ reply-of a (now (lengths .exit)) (now (stops .exit)) ≡ public-eliminate (problem n (now (demand .entry)) (now (service .entry)) (now (ready .entry)) (now (due .entry)) (now (penalty .entry)) (now (flags .entry))
         (now (distances .entry)) (now (times .entry)) vehicle)
         (slices-of (now (lengths .entry)) (now (stops .entry))) (work-of (length (now (work .entry))) (length (now (cells .entry)))) ⌝ }
+    ensures work { λ a. ⌜ Free-if-answered a (now (work .entry)) (now (work .exit)) ⌝ }
 {
     let r = eliminate_refusal(
         lengths,

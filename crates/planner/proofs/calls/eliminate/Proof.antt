@@ -16,7 +16,7 @@ same-length-2 : tie.Need-same-length-2
 same-length-2 c = search needs
 
 returns : tie.Need-returns
-returns c = eliminate-refused _ _ _ _ (c .before .eliminate-refusal .ensures) (λ z. omega (arith, c .if1 .taken, z))
+returns c = (eliminate-refused _ _ _ _ (c .before .eliminate-refusal .ensures) (λ z. omega (arith, c .if1 .taken, z)), refl)
 
 eliminate-routes-requires : tie.Need-eliminate-routes-requires
 eliminate-routes-requires c κs =
@@ -35,7 +35,7 @@ same-length-5 c = search needs
 returns-2 : tie.Need-returns-2
 returns-2 c =
     let t = c .before .before .before .before .before .before .before .before .before .before .before .eliminate-refusal in
-    eliminate-answers _ _ (t .result) _ (t .ensures) (omega (arith, c .before .before .before .before .before .before .before .before .before .before .if1 .left)) _ _ (c .before .before .before .before .before .before .eliminate-routes .ensures)
+    (eliminate-answers _ _ (t .result) _ (t .ensures) (omega (arith, c .before .before .before .before .before .before .before .before .before .before .if1 .left)) _ _ (c .before .before .before .before .before .before .eliminate-routes .ensures), tt)
 
 pub eliminate-spec : {M : Type 1} → statement M
 eliminate-spec =

@@ -16,7 +16,7 @@ same-length-2 : tie.Need-same-length-2
 same-length-2 c = search needs
 
 returns : tie.Need-returns
-returns c = minimise-refused _ _ _ _ _ _ (c .before .minimise-refusal .ensures) (λ z. omega (arith, c .if1 .taken, z)) _
+returns c = (minimise-refused _ _ _ _ _ _ (c .before .minimise-refusal .ensures) (λ z. omega (arith, c .if1 .taken, z)) _, (refl, refl))
 
 minimize-routes-requires : tie.Need-minimize-routes-requires
 minimize-routes-requires c κs =
@@ -38,7 +38,7 @@ same-length-6 c = search needs
 returns-2 : tie.Need-returns-2
 returns-2 c =
     let t = c .before .before .before .before .before .before .before .before .before .before .before .before .before .before .minimise-refusal in
-    minimise-answers _ _ (t .result) _ _ _ (t .ensures) (omega (arith, c .before .before .before .before .before .before .before .before .before .before .before .before .before .if1 .left)) _ _ _ (c .before .before .before .before .before .before .before .before .minimize-routes .ensures)
+    (minimise-answers _ _ (t .result) _ _ _ (t .ensures) (omega (arith, c .before .before .before .before .before .before .before .before .before .before .before .before .before .if1 .left)) _ _ _ (c .before .before .before .before .before .before .before .before .minimize-routes .ensures), (tt, tt))
 
 pub minimise-spec : {M : Type 1} → statement M
 minimise-spec =

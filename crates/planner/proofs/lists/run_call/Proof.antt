@@ -50,7 +50,7 @@ same-length-4 : tie.Need-same-length-4
 same-length-4 c = search needs
 
 returns : tie.Need-returns
-returns c = minimise-called _ _ _ _ _ _ _ (c .before .before .before .before .before .before .before .before .before .before .before .before .before .before .before .before .before .before .before .before .before .before .before .before .before .before .before .before .before .pre) _ (omega (arith, c .before .before .before .before .before .before .before .before .before .before .before .before .before .before .before .if1 .taken)) (c .before .before .before .before .before .before .before .before .minimise .ensures)
+returns c = minimise-called _ _ _ _ _ _ _ (c .before .before .before .before .before .before .before .before .before .before .before .before .before .before .before .before .before .before .before .before .before .before .before .before .before .before .before .before .before .pre) _ (omega (arith, c .before .before .before .before .before .before .before .before .before .before .before .before .before .before .before .if1 .taken)) (c .before .before .before .before .before .before .before .before .minimise .ensures .0)
 
 slice-relend-prefix-eliminate : tie.Need-slice-relend-prefix-eliminate
 slice-relend-prefix-eliminate c = search needs
@@ -80,7 +80,7 @@ same-length-8 : tie.Need-same-length-8
 same-length-8 c = search needs
 
 returns-2 : tie.Need-returns-2
-returns-2 c = eliminate-called _ _ _ _ _ _ _ (c .before .before .before .before .before .before .before .before .before .before .before .before .before .before .before .before .before .before .before .before .before .before .before .before .before .pre) _ (c .before .before .before .before .before .before .before .before .before .before .before .if1 .left) (c .before .before .before .before .before .before .eliminate .ensures)
+returns-2 c = eliminate-called _ _ _ _ _ _ _ (c .before .before .before .before .before .before .before .before .before .before .before .before .before .before .before .before .before .before .before .before .before .before .before .before .before .pre) _ (c .before .before .before .before .before .before .before .before .before .before .before .if1 .left) (c .before .before .before .before .before .before .eliminate .ensures .0)
 
 pub run-call-spec : {M : Type 1} → statement M
 run-call-spec =

@@ -21,7 +21,7 @@ same-length-4 : tie.Need-same-length-4
 same-length-4 c = search needs
 
 returns : tie.Need-returns
-returns c = asks-minimise _ _ _ _ _ _ (omega (arith, c .before .before .before .before .before .before .before .before .before .before .before .before .before .if1 .taken)) (c .before .before .before .before .before .before .before .before .minimise .ensures)
+returns c = asks-minimise _ _ _ _ _ _ (omega (arith, c .before .before .before .before .before .before .before .before .before .before .before .before .before .if1 .taken)) (c .before .before .before .before .before .before .before .before .minimise .ensures .0)
 
 eliminate-requires : tie.Need-eliminate-requires
 eliminate-requires c κs = search needs
@@ -39,7 +39,7 @@ same-length-8 : tie.Need-same-length-8
 same-length-8 c = search needs
 
 returns-2 : tie.Need-returns-2
-returns-2 c = asks-eliminate _ _ _ _ _ _ (c .before .before .before .before .before .before .before .before .before .before .before .if1 .left) (c .before .before .before .before .before .before .eliminate .ensures)
+returns-2 c = asks-eliminate _ _ _ _ _ _ (c .before .before .before .before .before .before .before .before .before .before .before .if1 .left) (c .before .before .before .before .before .before .eliminate .ensures .0)
 
 pub changed-spec : {M : Type 1} → statement M
 changed-spec =
