@@ -1,0 +1,2 @@
+// Reads a sheet: its sections into lent slices.
+pub mod places;
