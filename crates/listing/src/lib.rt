@@ -1,0 +1,1 @@
+// Writes a listing into lent bytes.
