@@ -32,6 +32,12 @@ abbrev pub limit-of : Option ℕ → Limit
 limit-of none = NoLimit
 limit-of (some most) = LimitAt (nat most)
 
+-- a limit, and the byte b behind it
+unfoldable pub limit : ℕ → Parser Limit
+limit b = do
+  most ← before b optional
+  pure (limit-of most)
+
 -- "capacity, depot, fixed, cost per distance, distance limit, duration limit". "The depot is place 0."
 unfoldable pub vehicle-line : Parser Vehicle
 vehicle-line = do
@@ -40,16 +46,16 @@ vehicle-line = do
   check (eqb depot 0) 11
   fixed ← before space number
   per ← before space number
-  most ← before space optional
-  latest ← before lf optional
+  most ← limit space
+  latest ← limit lf
   pure
       (record {
         capacity = capacity;
-        «depot_id» = depot;
+        «depot_id» = 0;
         «fixed_cost» = nat fixed;
         «cost_per_distance» = nat per;
-        «max_distance» = limit-of most;
-        «max_duration» = limit-of latest;
+        «max_distance» = most;
+        «max_duration» = latest;
         rest = NoRest;
       })
 
@@ -80,18 +86,20 @@ abbrev pub penalty-of : Option ℕ → Penalty
 penalty-of none = NoPenalty
 penalty-of (some p) = PenaltyOf (nat p)
 
+-- the last of its line
+unfoldable pub penalty : Parser Penalty
+penalty = do
+  p ← before lf optional
+  pure (penalty-of p)
+
 -- "demand, service, READY, DUE, PENALTY"
 unfoldable pub place : Parser Place
 place = do
   demand ← before space signed
   service ← before space number
   w ← before space window
-  penalty ← before lf optional
-  pure
-      (record {
-        demand = demand;
-        customer = record { «service_duration» = nat service; «time_window» = w; «lateness_penalty» = penalty-of penalty };
-      })
+  p ← penalty
+  pure (record { demand = demand; customer = record { «service_duration» = nat service; «time_window» = w; «lateness_penalty» = p } })
 
 -- row 12: "places 0 or over 64"
 unfoldable pub places : Parser (List Place)

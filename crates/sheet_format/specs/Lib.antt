@@ -6,3 +6,5 @@ pub mod Opened
 pub mod Sample
 -- sheets that are refused, and some that are not
 pub mod Faults
+-- what the answers of the code mean
+pub mod Told

@@ -1,2 +1,3 @@
-// Reads a sheet: its sections into lent slices.
+// Reads a sheet, section by section, into lent slices. specs/Form.antt says what a sheet is.
 pub mod places;
+pub mod vehicle;
