@@ -116,8 +116,8 @@ square n = repeat n (λ left. line n)
 -- "distances (as places)"
 unfoldable pub distances : ℕ → Parser (List (List ℕ))
 distances n = do
-  m ← heading (bytes "distances") n n 11
-  square m
+  heading (bytes "distances") n n 11
+  square n
 
 -- "times (0 or as places)"
 unfoldable pub times : ℕ → Parser (List (List ℕ))
@@ -151,17 +151,20 @@ draws = do
   m ← heading (bytes "draws") 0 1024 12
   repeat m (λ left. before lf number)
 
--- "routes (length, that many stops)": n of them, with room for so many stops in all. Row 12: "stops over 64 in all", judged as soon as the length
--- is read.
-unfoldable pub route-lines : ℕ → ℕ → Parser Plan
-route-lines zero room = pure []
-route-lines (suc n) room = do
+-- "routes (length, that many stops)": a line, with room for so many stops. Row 12: "stops over 64 in all", judged as soon as the length is read.
+unfoldable pub route-line : ℕ → Parser (List ℕ)
+route-line room = do
   k ← number
   check (leb k room) 12
   byte (ending k)
-  stops ← line k
-  rest ← route-lines n (room - k)
-  pure (stops ∷ rest)
+  line k
+
+unfoldable pub route-lines : ℕ → ℕ → Parser Plan
+route-lines zero room = pure []
+route-lines (suc n) room = do
+  route ← route-line room
+  rest ← route-lines n (room - length route)
+  pure (route ∷ rest)
 
 -- row 12: "routes over 64"
 unfoldable pub routes : Parser Plan

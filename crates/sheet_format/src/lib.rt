@@ -1,3 +1,3 @@
-// Reads a sheet, section by section, into lent slices. specs/Form.antt says what a sheet is.
+// The lines of a sheet: the vehicle and its break, a place. specs/Form.antt says what a sheet is.
 pub mod places;
 pub mod vehicle;

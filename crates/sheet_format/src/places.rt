@@ -1,4 +1,4 @@
-// The section of the places.
+// A place's line.
 ghost use mathlib.Core.Path.{_≡_};
 ghost use Rattle.sheet_text.specs.Text.{before};
 ghost use Rattle.sheet_format.specs.Form.{window as Form·window, penalty as Form·penalty, place as Form·place};
@@ -94,7 +94,7 @@ fn penalty(s: &[u8], at: usize) -> PenaltyAt
 }
 
 // A place's line.
-fn place_line(s: &[u8], at: usize) -> PlaceAt
+pub fn place_line(s: &[u8], at: usize) -> PlaceAt
     ensures { λ r. ⌜ told-place r ≡ Form·place (now (s .entry)) at ⌝ }
 {
     let SignedAt::Got(demand, i) = signed_before(s, at, 32) else {
