@@ -7,6 +7,11 @@ use lib.Dec.{ltb}
 use lib.IntN.{ℤ, pos, negsuc}
 use Rattle.sheet_text.specs.Text.{bytes, minus}
 
+-- a text of some pieces, one behind the other
+unfoldable pub text : List (List ℕ) → List ℕ
+text [] = []
+text (x ∷ xs) = x ++ text xs
+
 -- the digits of a number that has at most k of them, the most significant first
 unfoldable pub digits : ℕ → ℕ → List ℕ
 digits zero n = []

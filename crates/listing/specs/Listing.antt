@@ -15,50 +15,64 @@ use Rattle.plan.specs.Plan.{Plan}
 use Rattle.local_search.specs.declared.rounds.Counts.{Counts}
 use Rattle.local_search.specs.Route.{legs, route-distance}
 use Rattle.local_search.specs.Feasible.{load}
-use Rattle.sheet_text.specs.Text.{bytes, space, lf}
-use Rattle.listing.specs.Decimal.{digits, decimal, signed}
+use Rattle.sheet_text.specs.Text.{bytes}
+use Rattle.listing.specs.Decimal.{text, digits, decimal, signed}
 
--- a distance as it prints: a route's distance is a sum of whole numbers (`distance-whole`), and this is Rust's `as u64`
+-- a distance as it prints, Rust's `as u64`: the distances of a sheet are whole numbers, and so are their sums
 abbrev pub whole : Float → ℕ
 whole x = toUnsigned 64 x
 
--- each stop behind a space
+-- a stop behind a space
+unfoldable pub stop : ℕ → List ℕ
+stop c = text (bytes " " ∷ decimal c ∷ [])
+
 unfoldable pub stops : List ℕ → List ℕ
 stops [] = []
-stops (c ∷ cs) = space ∷ decimal c ++ stops cs
+stops (c ∷ cs) = stop c ++ stops cs
 
 -- "Route line: number from 1, load, distance, stops."
 unfoldable pub route-line : ℕ → ℤ → ℕ → List ℕ → List ℕ
-route-line number load distance route = decimal number ++ (space ∷ signed load) ++ (space ∷ decimal distance) ++ stops route ++ (lf ∷ [])
+route-line number load distance route = text (decimal number ∷ bytes " " ∷ signed load ∷ bytes " " ∷ decimal distance ∷ stops route ∷ bytes "\n" ∷ [])
 
 -- the lines of routes from some number on
 unfoldable pub route-lines : Problem → ℕ → Plan → List ℕ
 route-lines p number [] = []
-route-lines p number (r ∷ rs) = route-line number (load (p .demand) r) (whole (route-distance (p .roads) (depot p) r)) r ++ route-lines p (suc number) rs
+route-lines p number (r ∷ rs) =
+    text (route-line number (load (p .demand) r) (whole (route-distance (p .roads) (depot p) r)) r ∷ route-lines p (suc number) rs ∷ [])
 
 -- "routes 1"
 unfoldable pub first-line : ℕ → List ℕ
-first-line n = bytes "routes " ++ decimal n ++ (lf ∷ [])
+first-line n = text (bytes "routes " ∷ decimal n ∷ bytes "\n" ∷ [])
 
 -- "steps 2 draws 0 given 2 left 1"
-unfoldable pub last-line : Counts → ℕ → ℕ → List ℕ
-last-line counts given left =
-    bytes "steps " ++ decimal (counts .steps) ++ bytes " draws " ++ decimal (counts .draws) ++ bytes " given " ++ decimal given ++ bytes " left " ++ decimal left
-    ++ (lf ∷ [])
+unfoldable pub last-line : (steps draws given left : ℕ) → List ℕ
+last-line steps draws given left =
+    text
+    (bytes "steps "
+    ∷ decimal steps
+    ∷ bytes " draws "
+    ∷ decimal draws
+    ∷ bytes " given "
+    ∷ decimal given
+    ∷ bytes " left "
+    ∷ decimal left
+    ∷ bytes "\n"
+    ∷ [])
 
 -- The listing of a plan: "Given: route lines of the sheet, empty ones too; left: routes printed."
 unfoldable pub listing : Problem → Plan → Counts → ℕ → List ℕ
-listing p plan counts given = first-line (length plan) ++ route-lines p 1 plan ++ last-line counts given (length plan)
+listing p plan counts given =
+    text (first-line (length plan) ∷ route-lines p 1 plan ∷ last-line (counts .steps) (counts .draws) given (length plan) ∷ [])
 
 -- "A refusal prints one line, for number 7 `refused 7`."
 unfoldable pub refusal-line : ℕ → List ℕ
-refusal-line n = bytes "refused " ++ decimal n ++ (lf ∷ [])
+refusal-line n = text (bytes "refused " ∷ decimal n ∷ bytes "\n" ∷ [])
 
 -- ---- the sample's listing, and others, by computation
 
 -- Every definition, for a theorem that is computed: `unfolding opened`.
 unfoldable pub opened : Unit {0}
-unfolding listing first-line last-line refusal-line route-lines route-line stops digits signed foldl load legs route-distance toUnsigned add ofInt
+unfolding text listing first-line last-line refusal-line route-lines route-line stops stop digits signed foldl load legs route-distance toUnsigned add ofInt
 opened = tt
 
 van : Vehicle
