@@ -18,7 +18,7 @@ use Rattle.local_search.specs.Feasible.{load}
 use Rattle.sheet_text.specs.Text.{bytes}
 use Rattle.listing.specs.Decimal.{text, digits, decimal, signed}
 
--- a distance as it prints, Rust's `as u64`: the distances of a sheet are whole numbers, and so are their sums
+-- a distance as it prints, Rust's `as u64`: the distances of a sheet are whole numbers, and so are their sums (`distance-prints`, sheet_laws)
 abbrev pub whole : Float → ℕ
 whole x = toUnsigned 64 x
 

@@ -177,13 +177,17 @@ pub record Run : Type 0 where
   pub limit : ℕ
   pub clock : ℕ
 
+unfoldable pub run-line : Parser Run
+run-line = do
+  m ← before space number
+  k ← before lf number
+  pure (record { limit = m; clock = k })
+
 -- "run (1: M, K)"
 unfoldable pub run : Parser Run
 run = do
   heading (bytes "run") 1 1 11
-  m ← before space number
-  k ← before lf number
-  pure (record { limit = m; clock = k })
+  run-line
 
 -- ---- the sheet as a whole
 
@@ -262,13 +266,19 @@ pub record Sheet : Type 0 where
 abbrev pub end : Parser (Unit {0})
 end s at = check (eqb at (length s)) 11 s at
 
+-- the last section, and the end
+unfoldable pub last-run : Parser Run
+last-run = do
+  r ← run
+  end
+  pure r
+
 unfoldable pub sections : Parser Sheet
 sections = do
   p ← whole-problem
   tape ← draws
   plan ← routes
-  r ← run
-  end
+  r ← last-run
   pure (record { problem = p; plan = slices-of plan; tape = tape; run = r })
 
 -- "A sheet is tested for 10, then read front to back to its first fault (11 or 12)"

@@ -16,8 +16,10 @@ use Rattle.sheet_text.specs.declared.words.Count.{Count}
 use Rattle.sheet_text.specs.declared.words.Count.the-variants.{Got as CountGot, Refused as CountRefused}
 use Rattle.sheet_text.proofs.ReadLaws.{told, next-got, next-refused}
 use Rattle.plan.specs.Plan.{flat}
-use Rattle.sheet_format.specs.Form.{square}
-use Rattle.sheet_reader.specs.Cells.{filled, row-by-row}
+use Rattle.sheet_format.specs.Form.{Run, square}
+use Rattle.sheet_reader.specs.Cells.{filled, row-by-row, told-run}
+use Rattle.sheet_reader.specs.declared.run.RunAt.{RunAt}
+use Rattle.sheet_reader.specs.declared.run.RunAt.the-variants.{Got as RunGot, Refused as RunRefused}
 
 -- ---- counts
 
@@ -93,3 +95,14 @@ module _ (n m : ℕ) (s : List ℕ) (i : ℕ) where
   times-all y z e g = rw (ne-eqb m 0 z, eq-eqb m n e) (g ∙ ap (λ (k : ℕ). map-reading row-by-row (square k s i)) (sym e))
 
 pub ruleset times-laws = (times-none, times-other, times-all)
+
+-- ---- the run
+
+pub on-run : {B : Type 0} (r : RunAt) (m k i : ℕ) (p : Reading Run) (f : Run → ℕ → Reading B) (y : Reading B) → told-run r ≡ p → r ≡ RunGot m k i
+    → y ≡ f (record { limit = m; clock = k }) i → y ≡ next p f
+on-run r m k i p f y t e g = next-got p f (record { limit = m; clock = k }) i y (told told-run e t) g
+
+pub run-refused : (r : RunAt) (n : ℕ) (p : Reading Run) → r ≡ RunRefused n → told-run r ≡ p → refused n ≡ p
+run-refused r n p = told told-run
+
+pub ruleset run-laws = (on-run, run-refused)

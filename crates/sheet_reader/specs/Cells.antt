@@ -17,7 +17,9 @@ use Rattle.sheet_reader.specs.declared.roads.Section.{Section}
 use Rattle.sheet_reader.specs.declared.roads.Section.the-variants.{At as SectionAt, Refused as SectionRefused}
 use Rattle.sheet_reader.specs.declared.routes.PlanAt.{PlanAt}
 use Rattle.sheet_reader.specs.declared.routes.PlanAt.the-variants.{Got as PlanGot, Refused as PlanRefused}
-use Rattle.sheet_format.specs.Form.{ready-cell, due-cell, penalty-cell, flags-cell, stop-cell}
+use Rattle.sheet_reader.specs.declared.run.RunAt.{RunAt}
+use Rattle.sheet_reader.specs.declared.run.RunAt.the-variants.{Got as RunGot, Refused as RunRefused}
+use Rattle.sheet_format.specs.Form.{Run, ready-cell, due-cell, penalty-cell, flags-cell, stop-cell}
 
 -- ---- numbers
 
@@ -130,3 +132,8 @@ filled-route used stops (CountRefused n) = refused n
 abbrev pub filled-plan : List ℕ → List ℕ → PlanAt → Reading Slices
 filled-plan lengths stops (PlanGot m used i) = got (record { lengths = take m lengths; stops = take used stops }) i
 filled-plan lengths stops (PlanRefused k) = refused k
+
+-- M, K
+abbrev pub told-run : RunAt → Reading Run
+told-run (RunGot m k i) = got (record { limit = m; clock = k }) i
+told-run (RunRefused n) = refused n

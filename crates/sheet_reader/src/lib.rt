@@ -2,3 +2,4 @@
 pub mod places;
 pub mod roads;
 pub mod routes;
+pub mod run;

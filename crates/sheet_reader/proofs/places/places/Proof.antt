@@ -23,7 +23,7 @@ enum-known-h-2 c = search needs
 place-rows-requires : tie.Need-place-rows-requires
 place-rows-requires c κs =
     let h = c .before .before .before .before .before .before .before in
-    let n = count-within _ _ 1 64 12 _ _ _ _ (h .h2 .given .1) (h .before .before .heading .ensures) in
+    let n = count-within _ _ _ _ _ _ _ _ _ (h .h2 .given .1) (h .before .before .heading .ensures) in
     room-now _ _ 64 _ (h .before .before .before .before .before .before .before .before .before .before .pre) (sizes-same _) (n .1)
 
 enum-known-e : tie.Need-enum-known-e

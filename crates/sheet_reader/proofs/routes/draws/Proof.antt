@@ -22,7 +22,7 @@ enum-known-h-2 c = search needs
 draw-rows-requires : tie.Need-draw-rows-requires
 draw-rows-requires c κs =
     let h = c .before .before .before .before .heading in
-    omega (arith, c .before .before .before .before .before .before .before .before .pre, count-within _ _ 0 1024 12 _ _ _ _ (c .before .before .h2 .given .1) (h .ensures) .1)
+    omega (arith, c .before .before .before .before .before .before .before .before .pre, count-within _ _ _ _ _ _ _ _ _ (c .before .before .h2 .given .1) (h .ensures) .1)
 
 enum-known-e : tie.Need-enum-known-e
 enum-known-e c = search needs

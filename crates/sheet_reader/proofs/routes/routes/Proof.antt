@@ -22,7 +22,7 @@ enum-known-h-2 c = search needs
 route-rows-requires : tie.Need-route-rows-requires
 route-rows-requires c κs =
     let h = c .before .before .before in
-    let n = count-within _ _ 0 64 12 _ _ _ _ (h .h2 .given .1) (h .before .before .heading .ensures) in
+    let n = count-within _ _ _ _ _ _ _ _ _ (h .h2 .given .1) (h .before .before .heading .ensures) in
     let p = h .before .before .before .before .before .before .before .pre in
     (omega (arith, p .0, n .1), p .1)
 
