@@ -17,7 +17,9 @@ use Rattle.sheet_text.specs.declared.words.Count.the-variants.{Got as CountGot,
 use Rattle.sheet_text.proofs.ReadLaws.{told, next-got, next-refused}
 use Rattle.plan.specs.Plan.{flat}
 use Rattle.sheet_format.specs.Form.{Run, square}
-use Rattle.sheet_reader.specs.Cells.{filled, row-by-row, told-run}
+use Rattle.sheet_reader.specs.Cells.{filled, row-by-row, PlanWithin, told-run}
+use Rattle.sheet_reader.specs.declared.routes.PlanAt.{PlanAt}
+use Rattle.sheet_reader.specs.declared.routes.PlanAt.the-variants.{Got as PlanGot, Refused as PlanRefused}
 use Rattle.sheet_reader.specs.declared.run.RunAt.{RunAt}
 use Rattle.sheet_reader.specs.declared.run.RunAt.the-variants.{Got as RunGot, Refused as RunRefused}
 
@@ -106,3 +108,7 @@ pub run-refused : (r : RunAt) (n : ℕ) (p : Reading Run) → r ≡ RunRefused n
 run-refused r n p = told told-run
 
 pub ruleset run-laws = (on-run, run-refused)
+
+pub plan-within : (n m : ℕ) (r : PlanAt) → PlanWithin n r → n ≤ m → PlanWithin m r
+plan-within n m (PlanGot k used i) w h = (omega (arith, w .0, h), w .1)
+plan-within n m (PlanRefused k) w h = tt

@@ -110,6 +110,11 @@ abbrev pub filled-count : {A : Type 0} → List A → Count → Reading (List A)
 filled-count cells (CountGot n i) = got (take n cells) i
 filled-count cells (CountRefused k) = refused k
 
+-- where a count was read it is at most so many
+abbrev pub AtMost : ℕ → Count → Type 0
+AtMost most (CountGot n i) = n ≤ most
+AtMost most (CountRefused k) = Unit
+
 -- so many rows of as many cells
 abbrev pub filled-square : List Float → Count → Reading (List Float)
 filled-square cells (CountGot n i) = got (take (n * n) cells) i
@@ -132,6 +137,11 @@ filled-route used stops (CountRefused n) = refused n
 abbrev pub filled-plan : List ℕ → List ℕ → PlanAt → Reading Slices
 filled-plan lengths stops (PlanGot m used i) = got (record { lengths = take m lengths; stops = take used stops }) i
 filled-plan lengths stops (PlanRefused k) = refused k
+
+-- where a plan was read it has at most so many routes, and 64 stops
+abbrev pub PlanWithin : ℕ → PlanAt → Type 0
+PlanWithin most (PlanGot m used i) = (m ≤ most) × (used ≤ 64)
+PlanWithin most (PlanRefused k) = Unit
 
 -- M, K
 abbrev pub told-run : RunAt → Reading Run

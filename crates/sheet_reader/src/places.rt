@@ -4,7 +4,7 @@ ghost use Prim.Native.Nat.{_+_};
 ghost use Rattle.sheet_text.specs.Text.{map-reading, repeat};
 ghost use Rattle.sheet_format.specs.Form.{place as Form·place, places as Form·places};
 ghost use Rattle.sheet_format.specs.Form.{ready-cell as Form·ready-cell, due-cell as Form·due-cell, penalty-cell as Form·penalty-cell, flags-cell as Form·flags-cell};
-ghost use Rattle.sheet_reader.specs.Cells.{columns-of, columns, first-cells, add-place, Room, filled, filled-places};
+ghost use Rattle.sheet_reader.specs.Cells.{columns-of, columns, first-cells, add-place, Room, AtMost, filled, filled-places};
 use models::customer::Penalty;
 use models::customer::Window;
 use sheet_format::places::PlaceAt;
@@ -132,6 +132,7 @@ pub fn places(
 ) -> Count
     requires { ⌜ Room 64 (columns-of (now demand) (now service) (now ready) (now due) (now penalty) (now flags)) ⌝ }
     ensures { λ r. ⌜ filled-places (columns-of (now (demand .exit)) (now (service .exit)) (now (ready .exit)) (now (due .exit)) (now (penalty .exit)) (now (flags .exit))) r ≡ map-reading columns (Form·places (now (s .entry)) at) ⌝ }
+    ensures { λ r. ⌜ AtMost 64 r ⌝ }
 {
     let h = heading(s, at, b"places", 1, 64, 12);
     match h {

@@ -5,7 +5,7 @@ ghost use lib.ListN.{length, take};
 ghost use Rattle.floats.specs.Whole.{nat};
 ghost use Rattle.sheet_text.specs.Text.{map-reading, line};
 ghost use Rattle.sheet_format.specs.Form.{square as Form·square, distances as Form·distances, times as Form·times};
-ghost use Rattle.sheet_reader.specs.Cells.{front, row-by-row, filled, filled-section, filled-square};
+ghost use Rattle.sheet_reader.specs.Cells.{front, row-by-row, filled, filled-section, filled-square, AtMost};
 use sheet_text::numbers::Next;
 use sheet_text::numbers::NumberAt;
 use sheet_text::numbers::number_before;
@@ -80,6 +80,7 @@ pub fn distances(cells: &mut [f64], s: &[u8], at: usize, n: usize) -> Section
 pub fn times(cells: &mut [f64], s: &[u8], at: usize, n: usize) -> Count
     requires { ⌜ n * n ≤ length (now cells) ⌝ }
     ensures { λ r. ⌜ filled-square (now (cells .exit)) r ≡ map-reading row-by-row (Form·times n (now (s .entry)) at) ⌝ }
+    ensures { λ r. ⌜ AtMost n r ⌝ }
 {
     let h = heading(s, at, b"times", 0, n, 11);
     match h {

@@ -5,7 +5,7 @@ ghost use lib.ListN.{length, take};
 ghost use Rattle.sheet_text.specs.Text.{map-reading, before, repeat, line, lf};
 ghost use Rattle.sheet_text.specs.Text.{number as Text·number};
 ghost use Rattle.sheet_format.specs.Form.{stop-cell as Form·stop-cell, draws as Form·draws, route-line, route-lines, routes as Form·routes, slices-of};
-ghost use Rattle.sheet_reader.specs.Cells.{front, filled, filled-count, route-behind, filled-route, filled-plan};
+ghost use Rattle.sheet_reader.specs.Cells.{front, filled, filled-count, route-behind, filled-route, filled-plan, AtMost, PlanWithin};
 use sheet_text::numbers::Next;
 use sheet_text::numbers::NumberAt;
 use sheet_text::numbers::byte;
@@ -45,6 +45,7 @@ fn draw_rows(cells: &mut [u64], s: &[u8], at: usize, n: usize) -> Next
 pub fn draws(cells: &mut [u64], s: &[u8], at: usize) -> Count
     requires { ⌜ 1024 ≤ length (now cells) ⌝ }
     ensures { λ r. ⌜ filled-count (now (cells .exit)) r ≡ Form·draws (now (s .entry)) at ⌝ }
+    ensures { λ r. ⌜ AtMost 1024 r ⌝ }
 {
     let h = heading(s, at, b"draws", 0, 1024, 12);
     match h {
@@ -114,6 +115,7 @@ fn route_rows(lengths: &mut [u16], stops: &mut [u16], s: &[u8], at: usize, n: us
     requires { ⌜ n ≤ length (now lengths) ⌝ }
     requires { ⌜ 64 ≤ length (now stops) ⌝ }
     ensures { λ r. ⌜ filled-plan (now (lengths .exit)) (now (stops .exit)) r ≡ map-reading slices-of (route-lines n 64 (now (s .entry)) at) ⌝ }
+    ensures { λ r. ⌜ PlanWithin n r ⌝ }
 {
     let mut a = at;
     let mut r: usize = 0;
@@ -142,6 +144,7 @@ pub fn routes(lengths: &mut [u16], stops: &mut [u16], s: &[u8], at: usize) -> Pl
     requires { ⌜ 64 ≤ length (now lengths) ⌝ }
     requires { ⌜ 64 ≤ length (now stops) ⌝ }
     ensures { λ r. ⌜ filled-plan (now (lengths .exit)) (now (stops .exit)) r ≡ map-reading slices-of (Form·routes (now (s .entry)) at) ⌝ }
+    ensures { λ r. ⌜ PlanWithin 64 r ⌝ }
 {
     let h = heading(s, at, b"routes", 0, 64, 12);
     match h {

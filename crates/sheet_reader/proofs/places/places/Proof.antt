@@ -55,11 +55,11 @@ unfolding places
 returns c =
     let r = c .before .before .before .before .before .before .before .before .before .before .before .before .before in
     let h = r .before .before .before .before .before .before .before .before in
-    map-count columns _ _ _ _ _ _ (h .before .before .heading .ensures) (h .h2 .given .1) (filled-bad _ _ _ (c .enum-told .given .1) (r .place-rows .ensures))
+    (map-count columns _ _ _ _ _ _ (h .before .before .heading .ensures) (h .h2 .given .1) (filled-bad _ _ _ (c .enum-told .given .1) (r .place-rows .ensures)), tt)
 
 returns-2 : tie.Need-returns-2
 unfolding places
-returns-2 c = map-refused columns _ _ (next-refused _ _ _ (count-refused _ _ _ (c .before .h .given .1) (c .before .before .before .heading .ensures)))
+returns-2 c = (map-refused columns _ _ (next-refused _ _ _ (count-refused _ _ _ (c .before .h .given .1) (c .before .before .before .heading .ensures))), tt)
 
 same-length-7 : tie.Need-same-length-7
 same-length-7 c = search needs
@@ -84,7 +84,7 @@ unfolding places
 returns-3 c =
     let r = c .before .before .before .before .before .before .before .before .before .before .before .before .before .before in
     let h = r .before .before .before .before .before .before .before .before in
-    map-count columns _ _ _ _ _ _ (h .before .before .heading .ensures) (h .h2 .given .1) (filled-at _ _ _ _ (c .before .e .given .1) (r .place-rows .ensures))
+    (map-count columns _ _ _ _ _ _ (h .before .before .heading .ensures) (h .h2 .given .1) (filled-at _ _ _ _ (c .before .e .given .1) (r .place-rows .ensures)), count-within _ _ _ _ _ _ _ _ _ (h .h2 .given .1) (h .before .before .heading .ensures) .1)
 
 pub places-spec : {M : Type 1} → statement M
 places-spec =

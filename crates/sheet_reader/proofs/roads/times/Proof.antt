@@ -20,11 +20,11 @@ enum-known-h-2 c = search needs
 
 returns : tie.Need-returns
 unfolding times
-returns c = search (readings, sections, times-laws)
+returns c = (search (readings, sections, times-laws), search needs)
 
 returns-2 : tie.Need-returns-2
 unfolding times
-returns-2 c = search (readings, sections, times-laws)
+returns-2 c = (search (readings, sections, times-laws), search needs)
 
 square-requires : tie.Need-square-requires
 square-requires c κs = search needs
@@ -40,18 +40,18 @@ same-length c = search needs
 
 returns-3 : tie.Need-returns-3
 unfolding times
-returns-3 c = search (readings, sections, times-laws)
+returns-3 c = (search (readings, sections, times-laws), search needs)
 
 returns-4 : tie.Need-returns-4
 unfolding times
-returns-4 c = search (readings, sections, times-laws)
+returns-4 c = (search (readings, sections, times-laws), search needs)
 
 same-length-2 : tie.Need-same-length-2
 same-length-2 c = search needs
 
 returns-5 : tie.Need-returns-5
 unfolding times
-returns-5 c = search (readings, sections, times-laws)
+returns-5 c = (search (readings, sections, times-laws), search needs)
 
 pub times-spec : {M : Type 1} → statement M
 times-spec =

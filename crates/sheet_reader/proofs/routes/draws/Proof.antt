@@ -35,18 +35,18 @@ same-length c = search needs
 
 returns : tie.Need-returns
 unfolding draws
-returns c = search (readings, sections)
+returns c = (search (readings, sections), tt)
 
 returns-2 : tie.Need-returns-2
 unfolding draws
-returns-2 c = search (readings, sections)
+returns-2 c = (search (readings, sections), tt)
 
 same-length-2 : tie.Need-same-length-2
 same-length-2 c = search needs
 
 returns-3 : tie.Need-returns-3
 unfolding draws
-returns-3 c = search (readings, sections)
+returns-3 c = (search (readings, sections), count-within _ _ _ _ _ _ _ _ _ (c .before .before .before .before .before .before .before .before .h2 .given .1) (c .before .before .before .before .before .before .before .before .before .before .heading .ensures) .1)
 
 pub draws-spec : {M : Type 1} → statement M
 draws-spec =

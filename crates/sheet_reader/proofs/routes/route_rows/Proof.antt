@@ -11,7 +11,7 @@ use Rattle.sheet_reader.proofs.routes.route_rows.Statement.{statement}
 use Rattle.sheet_reader.proofs.routes.route_rows.Tie as tie
 
 abbrev Inv-loop : tie.InvT-loop
-Inv-loop lengths₀ stops₀ s at n a₀ r₀ used₀ left₀ lengths stops a r used left = (map-reading slices-of (route-lines n 64 s at) ≡ map-reading (plan-behind r lengths used stops) (route-lines left (64 - used) s a)) × (used ≤ 64) × (r + left ≤ length lengths) × (length lengths ≡ length lengths₀) × (length stops ≡ length stops₀)
+Inv-loop lengths₀ stops₀ s at n a₀ r₀ used₀ left₀ lengths stops a r used left = (map-reading slices-of (route-lines n 64 s at) ≡ map-reading (plan-behind r lengths used stops) (route-lines left (64 - used) s a)) × (used ≤ 64) × (r + left ≡ n) × (length lengths ≡ length lengths₀) × (length stops ≡ length stops₀)
 
 abbrev μ-loop : tie.MeasureT-loop
 μ-loop lengths₀ stops₀ s at n a₀ r₀ used₀ left₀ lengths stops a r used left = left
@@ -41,7 +41,7 @@ returns c =
     let r = c .before .before .before .before .before in
     let t = r .before .before in
     let l = t .before .loop in
-    routes-fault _ _ _ _ (l .r) (l .used) (l .a) (l .left) (l .inv .0) (t .loop-test .taken) _ (route-refused (l .used) _ _ _ (r .route-row .ensures) _ (c .before .row .given .1))
+    (routes-fault _ _ _ _ (l .r) (l .used) (l .a) (l .left) (l .inv .0) (t .loop-test .taken) _ (route-refused (l .used) _ _ _ (r .route-row .ensures) _ (c .before .row .given .1)), tt)
 
 enum-known-row-2 : tie.Need-enum-known-row-2 Inv-loop μ-loop
 enum-known-row-2 c = search needs
@@ -78,7 +78,7 @@ loop-again c =
     let g = route-at (l .used) _ _ _ (r .route-row .ensures) _ _ (c .before .row2 .given .1) in (
       routes-turn _ _ _ _ (l .r) (l .used) (l .a) (l .left) (l .inv .0) (t .loop-test .taken) (omega arith) _ _ _ g,
       omega (arith, l .inv .1, route-few _ _ (l .used) _ _ _ _ g),
-      simp length-set (omega arith),
+      omega arith,
       simp length-set (l .inv .3),
       r .route-row .kept .0 ∙ l .inv .4,
     )
@@ -92,7 +92,7 @@ same-length-4 c = search needs
 returns-2 : tie.Need-returns-2 Inv-loop μ-loop
 returns-2 c =
     let l = c .before .loop in
-    routes-end _ _ _ _ (l .r) (l .used) (l .a) (l .left) (l .inv .0) (omega arith)
+    (routes-end _ _ _ _ (l .r) (l .used) (l .a) (l .left) (l .inv .0) (omega arith), (omega arith, l .inv .1))
 
 pub route-rows-spec : {M : Type 1} → statement M
 route-rows-spec =

@@ -1,8 +1,8 @@
 -- `routes` meets its contract. Assumes nothing.
 use native.Mathlib.Omega.{arith}
 use borrow.Author.Needs.{needs}
+use Rattle.sheet_reader.proofs.SectionLaws.{plan-within, sections, count-within}
 use Rattle.sheet_format.specs.Form.{routes}
-use Rattle.sheet_reader.proofs.SectionLaws.{sections, count-within}
 use Rattle.sheet_text.proofs.ReadLaws.{readings}
 use Rattle.sheet_reader.proofs.routes.routes.Statement.{statement}
 use Rattle.sheet_reader.proofs.routes.routes.Tie as tie
@@ -28,7 +28,7 @@ route-rows-requires c κs =
 
 returns : tie.Need-returns
 unfolding routes
-returns c = search (readings, sections)
+returns c = (search (readings, sections), tt)
 
 same-length : tie.Need-same-length
 same-length c = search needs
@@ -38,7 +38,9 @@ same-length-2 c = search needs
 
 returns-2 : tie.Need-returns-2
 unfolding routes
-returns-2 c = search (readings, sections)
+returns-2 c =
+    let n = count-within _ _ _ _ _ _ _ _ _ (c .before .before .before .before .before .before .before .before .h2 .given .1) (c .before .before .before .before .before .before .before .before .before .before .heading .ensures) in
+    (search (readings, sections), plan-within _ _ (c .before .before .before .before .route-rows .result) (c .before .before .before .before .route-rows .ensures .1) (n .1))
 
 pub routes-spec : {M : Type 1} → statement M
 routes-spec =
