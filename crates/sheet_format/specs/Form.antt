@@ -20,7 +20,8 @@ use Rattle.models.specs.declared.vehicle.Limit.the-variants.{None as NoLimit, A
 use Rattle.models.specs.declared.vehicle.Rest.{Rest}
 use Rattle.models.specs.declared.vehicle.Rest.the-variants.{None as NoRest, Break}
 use Rattle.models.specs.declared.vehicle.Vehicle.{Vehicle}
-use Rattle.models.specs.Problem.{Problem, problem}
+use Rattle.models.specs.Customer.{customers}
+use Rattle.models.specs.Problem.{Problem, DistanceMatrix, matrix}
 use Rattle.plan.specs.Plan.{Plan, Slices, flat, lengths-of}
 use Rattle.sheet_text.specs.Text.{Reading, refused, got, Parser, _>>=_, _>>_, pure, bytes, space, lf, minus, check, byte, before, number, if-minus, signed, optional, ending, repeat, line, heading}
 use Rattle.sheet_format.specs.declared.places.Place.{Place}
@@ -126,6 +127,17 @@ times n = do
   check (eqb m 0 || eqb m n) 11
   square m
 
+-- rows one behind the other
+abbrev pub row-by-row : List (List ℕ) → List Float
+row-by-row rows = map nat (flat rows)
+
+-- "Distances, and times if any, are lent N × N, row by row"
+unfoldable pub roads : ℕ → Parser DistanceMatrix
+roads n = do
+  ds ← distances n
+  ts ← times n
+  pure (matrix n (row-by-row ds) (row-by-row ts))
+
 -- "break (0 or 1: earliest, latest, duration)"
 unfoldable pub rest-line : Parser Rest
 rest-line = do
@@ -227,19 +239,20 @@ with-rest v rest =
     }
 
 -- the problem of what the first five sections hold
-unfoldable pub problem-of : Vehicle → List Place → List (List ℕ) → List (List ℕ) → Rest → Problem
-problem-of v ps ds ts rest =
-    problem
-    (length ps)
-    (map (λ p. p .demand) ps)
-    (map (λ p. p .customer .«service_duration») ps)
-    (map (λ p. ready-cell (p .customer .«time_window»)) ps)
-    (map (λ p. due-cell (p .customer .«time_window»)) ps)
-    (map (λ p. penalty-cell (p .customer .«lateness_penalty»)) ps)
-    (map (λ p. flags-cell (p .customer .«time_window») (p .customer .«lateness_penalty»)) ps)
-    (map nat (flat ds))
-    (map nat (flat ts))
-    (with-rest v rest)
+unfoldable pub problem-of : Vehicle → List Place → DistanceMatrix → Rest → Problem
+problem-of v ps m rest =
+    record {
+      demand = map (λ p. p .demand) ps;
+      places =
+          customers
+          (map (λ p. p .customer .«service_duration») ps)
+          (map (λ p. ready-cell (p .customer .«time_window»)) ps)
+          (map (λ p. due-cell (p .customer .«time_window»)) ps)
+          (map (λ p. penalty-cell (p .customer .«lateness_penalty»)) ps)
+          (map (λ p. flags-cell (p .customer .«time_window») (p .customer .«lateness_penalty»)) ps);
+      roads = m;
+      vehicle = with-rest v rest;
+    }
 
 -- the two slices of a plan, route after route
 unfoldable pub slices-of : Plan → Slices
@@ -250,10 +263,9 @@ unfoldable pub whole-problem : Parser Problem
 whole-problem = do
   v ← vehicle
   ps ← places
-  ds ← distances (length ps)
-  ts ← times (length ps)
+  m ← roads (length ps)
   rest ← break
-  pure (problem-of v ps ds ts rest)
+  pure (problem-of v ps m rest)
 
 -- what a sheet asks for: its plan is run by minimise with the tape, M and K, and then by eliminate
 pub record Sheet : Type 0 where

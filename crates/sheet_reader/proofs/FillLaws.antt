@@ -16,7 +16,8 @@ use Rattle.sheet_text.specs.Told.{told-number}
 use Rattle.sheet_text.specs.declared.numbers.NumberAt.{NumberAt}
 use Rattle.sheet_text.specs.declared.numbers.NumberAt.the-variants.{Got as NumberGot, Bad as NumberBad}
 use Rattle.sheet_text.proofs.ReadLaws.{told}
-use Rattle.sheet_reader.specs.Cells.{front, row-by-row}
+use Rattle.sheet_reader.specs.Cells.{front}
+use Rattle.sheet_format.specs.Form.{row-by-row}
 
 -- ---- readings seen through a function
 

@@ -16,8 +16,13 @@ use Rattle.sheet_text.specs.declared.words.Count.{Count}
 use Rattle.sheet_text.specs.declared.words.Count.the-variants.{Got as CountGot, Refused as CountRefused}
 use Rattle.sheet_text.proofs.ReadLaws.{told, next-got, next-refused}
 use Rattle.plan.specs.Plan.{flat}
-use Rattle.sheet_format.specs.Form.{Run, square}
-use Rattle.sheet_reader.specs.Cells.{filled, row-by-row, PlanWithin, told-run}
+use Rattle.models.specs.Problem.{matrix}
+use Rattle.sheet_format.specs.Form.{Run, square, distances, times, roads}
+use Rattle.sheet_reader.specs.declared.roads.Section.{Section}
+use Rattle.sheet_reader.specs.declared.roads.Section.the-variants.{At as SectionAt, Refused as SectionRefused}
+use Rattle.sheet_reader.proofs.FillLaws.{got-of, refused-of}
+use Rattle.sheet_reader.specs.Cells.{filled, filled-section, filled-square, filled-roads, PlanWithin, told-run}
+use Rattle.sheet_format.specs.Form.{row-by-row}
 use Rattle.sheet_reader.specs.declared.routes.PlanAt.{PlanAt}
 use Rattle.sheet_reader.specs.declared.routes.PlanAt.the-variants.{Got as PlanGot, Refused as PlanRefused}
 use Rattle.sheet_reader.specs.declared.run.RunAt.{RunAt}
@@ -112,3 +117,27 @@ pub ruleset run-laws = (on-run, run-refused)
 pub plan-within : (n m : ℕ) (r : PlanAt) → PlanWithin n r → n ≤ m → PlanWithin m r
 plan-within n m (PlanGot k used i) w h = (omega (arith, w .0, h), w .1)
 plan-within n m (PlanRefused k) w h = tt
+
+-- ---- distances, and then times
+
+module _ (n : ℕ) (s : List ℕ) (at : ℕ) (cells : List Float) (d : Section) (t : filled-section (take (n * n) cells) d ≡ map-reading row-by-row (distances n s at)) where
+  pub no-distances : (k : ℕ) → d ≡ SectionRefused k → refused k ≡ roads n s at
+  unfolding roads
+  no-distances k e =
+      let g = refused-of row-by-row (distances n s at) (told (filled-section (take (n * n) cells)) e t) in
+      rw (← g)
+
+  pub both-roads : (i : ℕ) (others : List Float) (r : Count) → d ≡ SectionAt i → filled-square others r ≡ map-reading row-by-row (times n s i) → filled-roads n cells others r ≡ roads n s at
+  unfolding roads
+  both-roads i others r e g =
+      let x = got-of row-by-row (distances n s at) (told (filled-section (take (n * n) cells)) e t) in
+      rw (← (x .1), ← (x .2)) (go r g)
+    where
+      go : (r : Count) → filled-square others r ≡ map-reading row-by-row (times n s i)
+          → filled-roads n cells others r ≡ next (times n s i) (λ ts j. got (matrix n (take (n * n) cells) (row-by-row ts)) j)
+      go (CountGot m j) h =
+          let y = got-of row-by-row (times n s i) h in
+          rw (← (y .1), ← (y .2))
+      go (CountRefused k) h =
+          let y = refused-of row-by-row (times n s i) h in
+          rw (← y)

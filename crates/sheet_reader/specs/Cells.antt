@@ -5,8 +5,8 @@ use mathlib.Core.List.{List, [], _∷_, _++_, map}
 use lib.ListN.{length, take}
 use lib.IntN.{ℤ}
 use lib.Ieee.{Float}
-use Rattle.floats.specs.Whole.{nat}
-use Rattle.plan.specs.Plan.{Plan, Slices, flat}
+use Rattle.models.specs.Problem.{DistanceMatrix, matrix}
+use Rattle.plan.specs.Plan.{Plan, Slices}
 use Rattle.sheet_text.specs.Text.{Reading, refused, got}
 use Rattle.sheet_text.specs.declared.numbers.Next.{Next}
 use Rattle.sheet_text.specs.declared.numbers.Next.the-variants.{At as NextAt, Bad as NextBad}
@@ -26,10 +26,6 @@ use Rattle.sheet_format.specs.Form.{Run, ready-cell, due-cell, penalty-cell, fl
 -- the first p cells, and behind them the numbers vs, each as f has it
 abbrev pub front : {A : Type 0} → (ℕ → A) → List A → ℕ → List ℕ → List A
 front f cells p vs = take p cells ++ map f vs
-
--- rows one behind the other
-abbrev pub row-by-row : List (List ℕ) → List Float
-row-by-row rows = map nat (flat rows)
 
 -- ---- places
 
@@ -119,6 +115,11 @@ AtMost most (CountRefused k) = Unit
 abbrev pub filled-square : List Float → Count → Reading (List Float)
 filled-square cells (CountGot n i) = got (take (n * n) cells) i
 filled-square cells (CountRefused k) = refused k
+
+-- n rows of distances, and so many of times
+abbrev pub filled-roads : ℕ → List Float → List Float → Count → Reading DistanceMatrix
+filled-roads n distances times (CountGot m i) = got (matrix n (take (n * n) distances) (take (m * m) times)) i
+filled-roads n distances times (CountRefused k) = refused k
 
 -- so many places
 abbrev pub filled-places : Columns → Count → Reading Columns

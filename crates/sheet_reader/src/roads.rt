@@ -4,8 +4,9 @@ ghost use Prim.Native.Nat.{_+_, _*_, _≤_};
 ghost use lib.ListN.{length, take};
 ghost use Rattle.floats.specs.Whole.{nat};
 ghost use Rattle.sheet_text.specs.Text.{map-reading, line};
-ghost use Rattle.sheet_format.specs.Form.{square as Form·square, distances as Form·distances, times as Form·times};
-ghost use Rattle.sheet_reader.specs.Cells.{front, row-by-row, filled, filled-section, filled-square, AtMost};
+ghost use Rattle.sheet_format.specs.Form.{square as Form·square, distances as Form·distances, times as Form·times, roads as Form·roads};
+ghost use Rattle.sheet_reader.specs.Cells.{front, filled, filled-section, filled-square, filled-roads, AtMost};
+ghost use Rattle.sheet_format.specs.Form.{row-by-row};
 use sheet_text::numbers::Next;
 use sheet_text::numbers::NumberAt;
 use sheet_text::numbers::number_before;
@@ -97,5 +98,25 @@ pub fn times(cells: &mut [f64], s: &[u8], at: usize, n: usize) -> Count
             };
             Count::Got(n, e)
         }
+    }
+}
+
+// The distances and the times: how many rows of times there are, and the position after them.
+pub fn roads(
+    distance_cells: &mut [f64],
+    time_cells: &mut [f64],
+    s: &[u8],
+    at: usize,
+    n: usize,
+) -> Count
+    requires { ⌜ n * n ≤ length (now «distance_cells») ⌝ }
+    requires { ⌜ n * n ≤ length (now «time_cells») ⌝ }
+    ensures { λ r. ⌜ filled-roads n (now («distance_cells» .exit)) (now («time_cells» .exit)) r ≡ Form·roads n (now (s .entry)) at ⌝ }
+    ensures { λ r. ⌜ AtMost n r ⌝ }
+{
+    let d = distances(distance_cells, s, at, n);
+    match d {
+        Section::Refused(k) => Count::Refused(k),
+        Section::At(i) => times(time_cells, s, i, n),
     }
 }

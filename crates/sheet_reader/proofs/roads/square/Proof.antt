@@ -6,7 +6,7 @@ use lib.ListN.{length}
 use borrow.Author.Needs.{needs}
 use Rattle.sheet_reader.proofs.SectionLaws.{filled-at, filled-bad}
 use Rattle.sheet_reader.proofs.FillLaws.{rows-behind, rows-start, row-room, rows-end, rows-fault, rows-turn}
-use Rattle.sheet_reader.specs.Cells.{row-by-row}
+use Rattle.sheet_format.specs.Form.{row-by-row}
 use Rattle.sheet_text.specs.Text.{map-reading, repeat, line}
 use Rattle.sheet_reader.proofs.roads.square.Statement.{statement}
 use Rattle.sheet_reader.proofs.roads.square.Tie as tie
