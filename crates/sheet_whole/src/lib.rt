@@ -1,0 +1,2 @@
+// Reads a whole sheet into lent slices.
+pub mod problem;
