@@ -1,0 +1,4 @@
+-- texts that are written piece by piece
+pub mod WriteLaws
+-- digits and signs
+pub mod DigitLaws

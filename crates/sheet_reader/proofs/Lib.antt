@@ -1,0 +1,8 @@
+-- loops that fill slices
+pub mod FillLaws
+-- places in their slices
+pub mod PlaceLaws
+-- sections
+pub mod SectionLaws
+-- routes in their slices
+pub mod RouteLaws

@@ -1,0 +1,143 @@
+-- Sections: what a heading says of its count, and readings that go on behind it: the ruleset `sections`. Assumes nothing.
+use Prim.Native.Nat.{ℕ, zero, _*_, _≤_}
+use mathlib.Core.Path.{_≡_, refl, ap, sym, _∙_, subst}
+use mathlib.Core.Bool.{Bool, true, false, _&&_, _||_}
+use mathlib.Core.List.{List}
+use native.Mathlib.Omega.{arith}
+use lib.Dec.{leb, eqb}
+use lib.ListN.{length, take}
+use borrow.Author.Tests.{leb-true, eq-eqb, ne-eqb}
+use lib.Ieee.{Float}
+use Rattle.sheet_text.specs.Text.{Reading, refused, got, next, check, map-reading, heading, word, byte, number, space, lf, repeat}
+use Rattle.sheet_text.specs.Told.{told-count}
+use Rattle.sheet_text.specs.declared.numbers.Next.{Next}
+use Rattle.sheet_text.specs.declared.numbers.Next.the-variants.{At as NextAt, Bad as NextBad}
+use Rattle.sheet_text.specs.declared.words.Count.{Count}
+use Rattle.sheet_text.specs.declared.words.Count.the-variants.{Got as CountGot, Refused as CountRefused}
+use Rattle.sheet_text.proofs.ReadLaws.{told, next-got, next-refused}
+use Rattle.plan.specs.Plan.{flat}
+use Rattle.models.specs.Problem.{matrix}
+use Rattle.sheet_format.specs.Form.{Run, square, distances, times, roads}
+use Rattle.sheet_reader.specs.declared.roads.Section.{Section}
+use Rattle.sheet_reader.specs.declared.roads.Section.the-variants.{At as SectionAt, Refused as SectionRefused}
+use Rattle.sheet_reader.proofs.FillLaws.{got-of, refused-of}
+use Rattle.sheet_reader.specs.Cells.{filled, filled-section, filled-square, filled-roads, PlanWithin, told-run}
+use Rattle.sheet_format.specs.Form.{row-by-row}
+use Rattle.sheet_reader.specs.declared.routes.PlanAt.{PlanAt}
+use Rattle.sheet_reader.specs.declared.routes.PlanAt.the-variants.{Got as PlanGot, Refused as PlanRefused}
+use Rattle.sheet_reader.specs.declared.run.RunAt.{RunAt}
+use Rattle.sheet_reader.specs.declared.run.RunAt.the-variants.{Got as RunGot, Refused as RunRefused}
+
+-- ---- counts
+
+-- what holds of every refusal, and of what is read behind each value, holds of the whole
+pub next-rule : {A B : Type 0} (P : Reading B → Type 0) → ((n : ℕ) → P (refused n)) → (r : Reading A) {f : A → ℕ → Reading B} → ((a : A) (i : ℕ) → P (f a i)) → P (next r f)
+next-rule P z (refused n) g = z n
+next-rule P z (got a i) g = g a i
+
+abbrev Within : ℕ → ℕ → Reading ℕ → Type 0
+Within least most (refused n) = Unit {0}
+Within least most (got n i) = (least ≤ n) × (n ≤ most)
+
+module _ (least most : ℕ) where
+  checked : (n k : ℕ) (s : List ℕ) (at : ℕ) → Within least most (next (check (leb least n && leb n most) k s at) (λ u i. next (byte lf s i) (λ v j. got n j)))
+  checked n k s at = go (leb least n) (leb n most) refl refl
+    where
+      go : (a b : Bool) → leb least n ≡ a → leb n most ≡ b → Within least most (next (check (a && b) k s at) (λ u i. next (byte lf s i) (λ v j. got n j)))
+      go true true e f = next-rule (Within least most) (λ m. tt) (byte lf s at) (λ u i. (leb-true least n e, leb-true n most f))
+      go true false e f = tt
+      go false b e f = tt
+
+  all-within : (name : List ℕ) (k : ℕ) (s : List ℕ) (at : ℕ) → Within least most (heading name least most k s at)
+  unfolding heading
+  all-within name k s at =
+      next-rule (Within least most) (λ m. tt) (word name s at)
+      (λ a i. next-rule (Within least most) (λ m. tt) (byte space s i) (λ b j. next-rule (Within least most) (λ m. tt) (number s j) (λ n l. checked n k s l)))
+
+-- a count that was read lies between least and most
+pub count-within : (h : Count) (name : List ℕ) (least most k : ℕ) (s : List ℕ) (at n i : ℕ)
+    → h ≡ CountGot n i → told-count h ≡ heading name least most k s at → (least ≤ n) × (n ≤ most)
+count-within h name least most k s at n i e t = subst (Within least most) (sym (told told-count e t)) (all-within least most name k s at)
+
+-- ---- readings seen through what slices hold
+
+pub map-refused : {B C : Type 0} (F : B → C) (p : Reading B) (n : ℕ) → refused n ≡ p → refused n ≡ map-reading F p
+map-refused F p n e = ap (map-reading F) e
+
+module _ {A B C : Type 0} (F : B → C) where
+  map-next : (p : Reading A) (f : A → ℕ → Reading B) (a : A) (i : ℕ) (y : Reading C) → got a i ≡ p → y ≡ map-reading F (f a i) → y ≡ map-reading F (next p f)
+  map-next p f a i y e g = g ∙ ap (λ (r : Reading A). map-reading F (next r f)) e
+
+pub map-count : {B C : Type 0} (F : B → C) (h : Count) (n i : ℕ) (p : Reading ℕ) (f : ℕ → ℕ → Reading B) (y : Reading C)
+    → told-count h ≡ p → h ≡ CountGot n i → y ≡ map-reading F (f n i) → y ≡ map-reading F (next p f)
+map-count F h n i p f y t e g = map-next F p f n i y (told told-count e t) g
+
+pub map-check : {B C : Type 0} (F : B → C) (b : Bool) (k : ℕ) (s : List ℕ) (at : ℕ) (f : Unit {0} → ℕ → Reading B) (y : Reading C)
+    → b ≡ true → y ≡ map-reading F (f tt at) → y ≡ map-reading F (next (check b k s at) f)
+map-check F b k s at f y e g = g ∙ rw e
+
+module _ {S : Type 0} (cells : S) (r : Next) (p : Reading S) where
+  pub filled-at : (i : ℕ) → r ≡ NextAt i → filled cells r ≡ p → got cells i ≡ p
+  filled-at i = told (filled cells)
+
+  pub filled-bad : r ≡ NextBad → filled cells r ≡ p → refused 11 ≡ p
+  filled-bad = told (filled cells)
+
+pub ruleset sections = (map-refused, map-count, map-check, filled-at, filled-bad)
+
+-- ---- times
+
+module _ (n m : ℕ) (s : List ℕ) (i : ℕ) where
+  abbrev rest-of-times : Reading (List Float)
+  rest-of-times = map-reading row-by-row (next (check (eqb m 0 || eqb m n) 11 s i) (λ u j. square m s j))
+
+  pub times-none : (cells : List Float) → m ≡ 0 → got (take (0 * 0) cells) i ≡ rest-of-times
+  unfolding repeat flat
+  times-none cells e = rw e
+
+  pub times-other : (m ≡ 0 → ⊥) → (m ≡ n → ⊥) → refused 11 ≡ rest-of-times
+  times-other z e = rw (ne-eqb m 0 z, ne-eqb m n e)
+
+  pub times-all : (y : Reading (List Float)) → (m ≡ 0 → ⊥) → m ≡ n → y ≡ map-reading row-by-row (square n s i) → y ≡ rest-of-times
+  times-all y z e g = rw (ne-eqb m 0 z, eq-eqb m n e) (g ∙ ap (λ (k : ℕ). map-reading row-by-row (square k s i)) (sym e))
+
+pub ruleset times-laws = (times-none, times-other, times-all)
+
+-- ---- the run
+
+pub on-run : {B : Type 0} (r : RunAt) (m k i : ℕ) (p : Reading Run) (f : Run → ℕ → Reading B) (y : Reading B) → told-run r ≡ p → r ≡ RunGot m k i
+    → y ≡ f (record { limit = m; clock = k }) i → y ≡ next p f
+on-run r m k i p f y t e g = next-got p f (record { limit = m; clock = k }) i y (told told-run e t) g
+
+pub run-refused : (r : RunAt) (n : ℕ) (p : Reading Run) → r ≡ RunRefused n → told-run r ≡ p → refused n ≡ p
+run-refused r n p = told told-run
+
+pub ruleset run-laws = (on-run, run-refused)
+
+pub plan-within : (n m : ℕ) (r : PlanAt) → PlanWithin n r → n ≤ m → PlanWithin m r
+plan-within n m (PlanGot k used i) w h = (omega (arith, w .0, h), w .1)
+plan-within n m (PlanRefused k) w h = tt
+
+-- ---- distances, and then times
+
+module _ (n : ℕ) (s : List ℕ) (at : ℕ) (cells : List Float) (d : Section) (t : filled-section (take (n * n) cells) d ≡ map-reading row-by-row (distances n s at)) where
+  pub no-distances : (k : ℕ) → d ≡ SectionRefused k → refused k ≡ roads n s at
+  unfolding roads
+  no-distances k e =
+      let g = refused-of row-by-row (distances n s at) (told (filled-section (take (n * n) cells)) e t) in
+      rw (← g)
+
+  pub both-roads : (i : ℕ) (others : List Float) (r : Count) → d ≡ SectionAt i → filled-square others r ≡ map-reading row-by-row (times n s i) → filled-roads n cells others r ≡ roads n s at
+  unfolding roads
+  both-roads i others r e g =
+      let x = got-of row-by-row (distances n s at) (told (filled-section (take (n * n) cells)) e t) in
+      rw (← (x .1), ← (x .2)) (go r g)
+    where
+      go : (r : Count) → filled-square others r ≡ map-reading row-by-row (times n s i)
+          → filled-roads n cells others r ≡ next (times n s i) (λ ts j. got (matrix n (take (n * n) cells) (row-by-row ts)) j)
+      go (CountGot m j) h =
+          let y = got-of row-by-row (times n s i) h in
+          rw (← (y .1), ← (y .2))
+      go (CountRefused k) h =
+          let y = refused-of row-by-row (times n s i) h in
+          rw (← y)

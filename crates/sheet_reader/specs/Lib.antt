@@ -1,0 +1,2 @@
+-- how lent slices hold what is read
+pub mod Cells

@@ -1,0 +1,90 @@
+// The sheet as a whole.
+ghost use mathlib.Core.Path.{_≡_};
+ghost use Prim.Native.Nat.{_≤_};
+ghost use lib.ListN.{length};
+ghost use Rattle.sheet_format.specs.Form.{sheet as Form·sheet};
+ghost use Rattle.sheet_reader.specs.Cells.{columns-of, Room};
+ghost use Rattle.sheet_whole.specs.Whole.{told-sheet, SheetWithin};
+use crate::problem::Head;
+use crate::problem::ProblemAt;
+use crate::problem::problem;
+use sheet_reader::routes::PlanAt;
+use sheet_reader::routes::draws;
+use sheet_reader::routes::routes;
+use sheet_reader::run::RunAt;
+use sheet_reader::run::last_run;
+use sheet_text::words::Count;
+
+// The head of the problem, how many draws, routes and stops there are, M, K, and the position after the sheet; or the number of a refusal.
+pub enum SheetAt {
+    Got(Head, usize, usize, usize, usize, u64, usize),
+    Refused(u8),
+}
+
+// A sheet of at most 60,000 bytes, read front to back to its first fault, into the slices.
+pub fn sheet(
+    lengths: &mut [u16],
+    stops: &mut [u16],
+    tape: &mut [u64],
+    demand: &mut [i32],
+    service: &mut [f64],
+    ready: &mut [f64],
+    due: &mut [f64],
+    penalty: &mut [f64],
+    flags: &mut [u8],
+    distances: &mut [f64],
+    times: &mut [f64],
+    s: &[u8],
+) -> SheetAt
+    requires { ⌜ (64 ≤ length (now lengths)) × (64 ≤ length (now stops)) × (1024 ≤ length (now tape)) ⌝ }
+    requires { ⌜ Room 64 (columns-of (now demand) (now service) (now ready) (now due) (now penalty) (now flags)) ⌝ }
+    requires { ⌜ (4096 ≤ length (now distances)) × (4096 ≤ length (now times)) ⌝ }
+    ensures { λ r. ⌜ told-sheet (now (lengths .exit)) (now (stops .exit)) (now (tape .exit)) (columns-of (now (demand .exit)) (now (service .exit)) (now (ready .exit)) (now (due .exit)) (now (penalty .exit)) (now (flags .exit))) (now (distances .exit)) (now (times .exit)) r ≡ Form·sheet (now (s .entry)) 0 ⌝ }
+    ensures { λ r. ⌜ SheetWithin r ⌝ }
+{
+    if s.len() > 60000 {
+        return SheetAt::Refused(10);
+    }
+    let p = problem(
+        demand,
+        service,
+        ready,
+        due,
+        penalty,
+        flags,
+        distances,
+        times,
+        s,
+        0,
+    );
+    match p {
+        ProblemAt::Refused(k) => SheetAt::Refused(k),
+        ProblemAt::Got(head, i) => {
+            let d = draws(tape, s, i);
+            match d {
+                Count::Refused(k) => SheetAt::Refused(k),
+                Count::Got(drawn, j) => {
+                    let q = routes(lengths, stops, s, j);
+                    match q {
+                        PlanAt::Refused(k) => SheetAt::Refused(k),
+                        PlanAt::Got(given, used, l) => {
+                            let r = last_run(s, l);
+                            match r {
+                                RunAt::Refused(k) => SheetAt::Refused(k),
+                                RunAt::Got(limit, clock, e) => SheetAt::Got(
+                                    head,
+                                    drawn,
+                                    given,
+                                    used,
+                                    limit,
+                                    clock,
+                                    e,
+                                ),
+                            }
+                        }
+                    }
+                }
+            }
+        }
+    }
+}
