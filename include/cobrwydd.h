@@ -26,7 +26,7 @@
  *   102  run_calls: the words of the list and the lengths of its slices do not fit together
  *
  * 100 is judged first, then 101, then 102, then 1 to 9 in their order, and the first that applies is returned. A function that returns
- * another number than 0 has changed no slice. (Work cells: of a refused minimise or eliminate this is tested and not proved.) */
+ * another number than 0 has changed no slice, work cells included. */
 #ifndef COBRWYDD_H
 #define COBRWYDD_H
 

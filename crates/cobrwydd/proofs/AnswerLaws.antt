@@ -20,7 +20,10 @@ use Rattle.evaluation.specs.declared.eval.Eval.the-variants.{Infeasible, Feasib
 use Rattle.plan.specs.Plan.{Slices}
 use Rattle.local_search.specs.declared.rounds.Reduction.{Reduction}
 use Rattle.planner.specs.Calls.{Answer, refused, answered, Reply}
-use Rattle.cobrwydd.specs.Said.{Values, values, Said, says, misfit, put, question, evaluated, eval-values, window-values, reduction-values, plan-call}
+use Rattle.planner.specs.declared.calls.Replied.{Replied}
+use Rattle.planner.specs.declared.calls.Replied.the-variants.{Refused as NotReplied, Answered as RepliedAs}
+use Rattle.planner.specs.Told.{replied-told, Free-if-answered}
+use Rattle.cobrwydd.specs.Said.{Values, values, Said, says, misfit, put, question, evaluated, eval-values, window-values, reduction-values, plan-call, Free-if-done}
 
 -- ---- a slice whose cells are all written
 
@@ -120,3 +123,10 @@ module _ (given : ℕ) (counts : List ℕ) (first : Slices) (m : ℕ) (e : m ≡
   unfolding plan-call
   call-replied h code counts₁ x s r f g =
       rw (← g, ← e, eq-eqb m 0 h, answer-said reduction-values 0 3 given [] counts m e h code [] counts₁ x x f refl)
+
+-- ---- the cells that a call is lent to work in
+
+pub reply-free : {A : Type 0} (a : Replied) (code : ℕ) (counts counts₁ : List ℕ) (before after : A)
+    → says code [] counts₁ ≡ put reduction-values (values [] counts) (replied-told a) → Free-if-answered a before after → Free-if-done code before after
+reply-free (NotReplied n) code counts counts₁ before after e f h = f
+reply-free (RepliedAs d) code counts counts₁ before after e f h = absurd (h (ap (λ (s : Said). s .code) e))

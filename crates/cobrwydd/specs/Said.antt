@@ -1,5 +1,6 @@
 -- What a function of the C interface returns, and what it leaves in the slices that it is lent for its answer. Assumes nothing.
 use Prim.Native.Nat.{ℕ}
+use mathlib.Core.Path.{_≡_}
 use mathlib.Core.List.{List, [], _∷_}
 use mathlib.Core.Bool.{Bool, cond}
 use lib.ListN.{length}
@@ -100,3 +101,7 @@ plan-call given counts first r =
       said = question reduction-values 0 3 given (values [] counts) (r .answer);
       slices = cond (eqb (misfit 0 0 (length counts) 3 given) 0) (r .slices) first;
     }
+
+-- "A refusal .. changes no buffer": of the cells that are lent to work in, before and after. They are free where 0 is returned.
+abbrev pub Free-if-done : {A : Type 0} → ℕ → A → A → Type 0
+Free-if-done code before after = (code ≡ 0 → ⊥) → after ≡ before

@@ -7,7 +7,7 @@ ghost use Rattle.ejection_pool.specs.Running.{allowance};
 ghost use Rattle.planner.specs.Calls.{public-minimise, public-eliminate};
 ghost use Rattle.planner.specs.Told.{slices-of, work-of};
 ghost use Rattle.cobrwydd.specs.VehicleOf.{vehicle-of};
-ghost use Rattle.cobrwydd.specs.Said.{replies, plan-call};
+ghost use Rattle.cobrwydd.specs.Said.{replies, plan-call, Free-if-done};
 use crate::answers::misfit;
 use crate::answers::put_reply;
 use crate::vehicle::vehicle_of;
@@ -44,9 +44,11 @@ pub extern "C" fn cobrwydd_minimise(
     latest: f64,
     duration: f64,
 ) -> u8
-    ensures { λ r. ⌜ replies r (now (counts .exit)) (now (lengths .exit)) (now (stops .exit)) ≡ plan-call given (now (counts .entry)) (slices-of (now (lengths .entry)) (now (stops .entry))) (public-minimise (problem n (now (demand .entry)) (now (service .entry)) (now (ready .entry)) (now (due .entry)) (now (penalty .entry)) (now (flags .entry))
+    ensures reply { λ r. ⌜ replies r (now (counts .exit)) (now (lengths .exit)) (now (stops .exit)) ≡ plan-call given (now (counts .entry)) (slices-of (now (lengths .entry)) (now (stops .entry))) (public-minimise (problem n (now (demand .entry)) (now (service .entry)) (now (ready .entry)) (now (due .entry)) (now (penalty .entry)) (now (flags .entry))
         (now (distances .entry)) (now (times .entry)) (vehicle-of capacity depot «fixed_cost» «cost_per_distance» given «max_distance» «max_duration» earliest latest duration))
         (slices-of (now (lengths .entry)) (now (stops .entry))) (allowance limit clock (now (tape .entry))) (work-of (length (now (work .entry))) (length (now (cells .entry))))) ⌝ }
+    ensures work { λ r. ⌜ Free-if-done r (now (work .entry)) (now (work .exit)) ⌝ }
+    ensures cells { λ r. ⌜ Free-if-done r (now (cells .entry)) (now (cells .exit)) ⌝ }
 {
     let fault = misfit(0, 0, counts.len(), 3, given);
     if fault != 0 {
@@ -114,9 +116,10 @@ pub extern "C" fn cobrwydd_eliminate(
     latest: f64,
     duration: f64,
 ) -> u8
-    ensures { λ r. ⌜ replies r (now (counts .exit)) (now (lengths .exit)) (now (stops .exit)) ≡ plan-call given (now (counts .entry)) (slices-of (now (lengths .entry)) (now (stops .entry))) (public-eliminate (problem n (now (demand .entry)) (now (service .entry)) (now (ready .entry)) (now (due .entry)) (now (penalty .entry)) (now (flags .entry))
+    ensures reply { λ r. ⌜ replies r (now (counts .exit)) (now (lengths .exit)) (now (stops .exit)) ≡ plan-call given (now (counts .entry)) (slices-of (now (lengths .entry)) (now (stops .entry))) (public-eliminate (problem n (now (demand .entry)) (now (service .entry)) (now (ready .entry)) (now (due .entry)) (now (penalty .entry)) (now (flags .entry))
         (now (distances .entry)) (now (times .entry)) (vehicle-of capacity depot «fixed_cost» «cost_per_distance» given «max_distance» «max_duration» earliest latest duration))
         (slices-of (now (lengths .entry)) (now (stops .entry))) (work-of (length (now (work .entry))) (length (now (cells .entry))))) ⌝ }
+    ensures work { λ r. ⌜ Free-if-done r (now (work .entry)) (now (work .exit)) ⌝ }
 {
     let fault = misfit(0, 0, counts.len(), 3, given);
     if fault != 0 {

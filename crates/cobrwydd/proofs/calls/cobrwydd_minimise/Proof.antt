@@ -1,7 +1,8 @@
 -- `calls::cobrwydd_minimise` meets its contract.
 use Rattle.cobrwydd.proofs.VehicleLaws.{vehicle-kept}
-use Rattle.cobrwydd.proofs.AnswerLaws.{numbers-fit, misfit-replied, call-replied}
+use Rattle.cobrwydd.proofs.AnswerLaws.{numbers-fit, misfit-replied, call-replied, reply-free}
 use borrow.Author.Needs.{needs}
+use mathlib.Core.Path.{refl}
 use Rattle.cobrwydd.proofs.calls.cobrwydd_minimise.Statement.{statement}
 use Rattle.cobrwydd.proofs.calls.cobrwydd_minimise.Tie as tie
 
@@ -9,7 +10,7 @@ misfit-requires : tie.Need-misfit-requires
 misfit-requires c κs = search needs
 
 returns : tie.Need-returns
-returns c = misfit-replied _ _ _ _ (c .before .misfit .ensures) _ (c .if1 .taken)
+returns c = (misfit-replied _ _ _ _ (c .before .misfit .ensures) _ (c .if1 .taken), (λ _. refl, λ _. refl))
 
 vehicle-of-requires : tie.Need-vehicle-of-requires
 vehicle-of-requires c κs = search needs
@@ -36,7 +37,10 @@ same-length-5 : tie.Need-same-length-5
 same-length-5 c = search needs
 
 returns-2 : tie.Need-returns-2
-returns-2 c = rw (← vehicle-kept _ _ _ _ _ _ _ _ _ _ (c .before .before .before .before .before .before .before .before .before .before .before .before .before .before .before .before .before .before .before .before .before .before .before .before .before .before .before .before .before .before .before .before .before .fits .capacity) _ (c .before .before .before .before .before .before .before .before .before .before .before .before .before .before .before .before .before .vehicle-of .ensures)) (call-replied _ _ _ _ (c .before .before .before .before .before .before .before .before .before .before .before .before .before .before .before .before .before .before .before .misfit .ensures) (c .before .before .before .before .before .before .before .before .before .before .before .before .before .before .before .before .before .before .if1 .left) _ _ _ _ _ (c .before .before .put-reply .ensures) (c .before .before .before .before .before .before .before .before .before .before .before .before .minimise .ensures))
+returns-2 c =
+    let r = c .before .before .before .before .before .before .before .before .before .before .before .before .minimise in
+    let s = c .before .before .put-reply .ensures in
+    (rw (← vehicle-kept _ _ _ _ _ _ _ _ _ _ (c .before .before .before .before .before .before .before .before .before .before .before .before .before .before .before .before .before .before .before .before .before .before .before .before .before .before .before .before .before .before .before .before .before .fits .capacity) _ (c .before .before .before .before .before .before .before .before .before .before .before .before .before .before .before .before .before .vehicle-of .ensures)) (call-replied _ _ _ _ (c .before .before .before .before .before .before .before .before .before .before .before .before .before .before .before .before .before .before .before .misfit .ensures) (c .before .before .before .before .before .before .before .before .before .before .before .before .before .before .before .before .before .before .if1 .left) _ _ _ _ _ (c .before .before .put-reply .ensures) (c .before .before .before .before .before .before .before .before .before .before .before .before .minimise .ensures .0)), (reply-free (r .result) _ _ _ _ _ s (r .ensures .1 .0), reply-free (r .result) _ _ _ _ _ s (r .ensures .1 .1)))
 
 pub cobrwydd-minimise-spec : {M : Type 1} → statement M
 cobrwydd-minimise-spec =
