@@ -7,14 +7,12 @@ use native.Mathlib.Omega.{arith}
 use lib.Dec.{ltb}
 use lib.IntN.{ℤ, pos, negsuc}
 use lib.ListN.{length, length-append}
-use Rattle.models.specs.Problem.{Problem, depot}
+use Rattle.models.specs.Problem.{Problem}
 use Rattle.plan.specs.Plan.{Plan, flat}
 use Rattle.local_search.specs.declared.rounds.Counts.{Counts}
-use Rattle.local_search.specs.Route.{route-distance}
-use Rattle.local_search.specs.Feasible.{load}
 use Rattle.sheet_text.specs.Text.{bytes}
 use Rattle.listing.specs.Decimal.{text, digits, decimal, signed}
-use Rattle.listing.specs.Listing.{whole, stop, stops, route-line, line-of, route-lines, first-line, last-line, listing, refusal-line}
+use Rattle.listing.specs.Listing.{stop, stops, route-line, line-of, route-lines, first-line, last-line, listing, refusal-line}
 
 digits-length : (k n : ℕ) → length (digits k n) ≤ k
 unfolding digits
@@ -64,6 +62,9 @@ route-line-length number load distance r =
       stops-length r,
     )
 
+line-length : (p : Problem) (number : ℕ) (r : List ℕ) → length (line-of p number r) ≤ 64 + 21 * length r
+line-length p number r = route-line-length number _ _ r
+
 route-lines-length : (p : Problem) (number : ℕ) (plan : Plan) → length (route-lines p number plan) ≤ 64 * length plan + 21 * length (flat plan)
 unfolding route-lines pieces flat
 route-lines-length p number [] = omega arith
@@ -71,7 +72,7 @@ route-lines-length p number (r ∷ rs) =
     omega (
       arith,
       text-length (line-of p number r ∷ route-lines p (suc number) rs ∷ []),
-      route-line-length number (load (p .demand) r) (whole (route-distance (p .roads) (depot p) r)) r,
+      line-length p number r,
       route-lines-length p (suc number) rs,
       length-append r (flat rs),
     )

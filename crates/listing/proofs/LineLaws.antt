@@ -115,41 +115,46 @@ module _ (n : ℕ) (demand : List ℤ) (distances : List Float) (v : Vehicle) (l
       there : k < length plan
       there = rw (length-split lengths stops) h
 
-      -- what is lent is route k
-      part : take (from + getD lengths k 0 - from) (drop from stops) ≡ route k plan
-      part = part-is n lengths stops from k (g .visit) h
+      -- what is lent from `from` to `end` is route k
+      module _ (end : ℕ) (e : end ≡ from + getD lengths k 0) where
+        part : take (end - from) (drop from stops) ≡ route k plan
+        part = rw e (part-is n lengths stops from k (g .visit) h)
 
-      pub lining-stops : Stops n (take (from + getD lengths k 0 - from) (drop from stops))
-      lining-stops = part-stops n lengths stops from k (g .visit) h
+        pub lining-stops : Stops n (take (end - from) (drop from stops))
+        lining-stops = rw e (part-stops n lengths stops from k (g .visit) h)
 
-      pub lining-prints : Prints prob (take (from + getD lengths k 0 - from) (drop from stops))
-      lining-prints = rw part (all-get k [] (g .prints) there)
+        pub lining-prints : Prints prob (take (end - from) (drop from stops))
+        lining-prints = rw part (all-get k [] (g .prints) there)
 
-      pub lining-room : Room out p (line-of prob (k + 1) (take (from + getD lengths k 0 - from) (drop from stops)))
-      lining-room = rw part (room-front out p _ _ _ (writing-room out₀ at _ out p _ (g .lines) (g .room)) (lines-more prob plan k there))
+        module _ (number : ℕ) (f : number ≡ k + 1) where
+          pub lining-room : Room out p (line-of prob number (take (end - from) (drop from stops)))
+          lining-room = rw (part, f) (room-front out p _ _ _ (writing-room out₀ at _ out p _ (g .lines) (g .room)) (lines-more prob plan k there))
 
-      pub lining-more
-          : (out₁ : List ℕ) (p₁ : ℕ)
-          → Written out p (line-of prob (k + 1) (take (from + getD lengths k 0 - from) (drop from stops))) out₁ p₁
-          → Lining n demand distances v lengths stops out₀ at out₁ p₁ (from + getD lengths k 0) (k + 1)
-      lining-more out₁ p₁ w =
-          record {
-            few = g .few;
-            cells = g .cells;
-            ends = g .ends;
-            demands = g .demands;
-            visit = visit-more n lengths stops from k (g .visit) h;
-            prints = g .prints;
-            room = g .room;
-            lines = writing-more out₀ at _ out p _ _ out₁ p₁ _ (g .lines) (lines-more prob plan k there) (rw part at w);
-          }
+          pub lining-more
+              : (out₁ : List ℕ) (p₁ from₁ k₁ : ℕ)
+              → Written out p (line-of prob number (take (end - from) (drop from stops))) out₁ p₁
+              → from₁ ≡ from + getD lengths k 0
+              → k₁ ≡ k + 1
+              → Lining n demand distances v lengths stops out₀ at out₁ p₁ from₁ k₁
+          lining-more out₁ p₁ from₁ k₁ w a b =
+              rw (a, b)
+              (record {
+                few = g .few;
+                cells = g .cells;
+                ends = g .ends;
+                demands = g .demands;
+                visit = visit-more n lengths stops from k (g .visit) h;
+                prints = g .prints;
+                room = g .room;
+                lines = writing-more out₀ at _ out p _ _ out₁ p₁ _ (g .lines) (lines-more prob plan k there) (rw (part, f) at w);
+              })
 
     pub lining-end : length lengths ≤ k → Written out₀ at (route-lines prob 1 plan) out p
     lining-end h = writing-end out₀ at _ out p _ (g .lines) (lines-end prob plan k (rw (length-split lengths stops) h))
 
 -- ---- a listing as a whole
 
-split-take : (ls s : List ℕ) (k : ℕ) → split (take k ls) s ≡ take k (split ls s)
+pub split-take : (ls s : List ℕ) (k : ℕ) → split (take k ls) s ≡ take k (split ls s)
 unfolding split
 split-take ls s zero = refl
 split-take [] s (suc k) = refl

@@ -59,8 +59,10 @@ part-put-route-end c =
 put-route-requires : tie.Need-put-route-requires Inv-loop μ-loop
 put-route-requires c κs =
     let t = c .before .before .before in
-    let g = t .before .loop .inv in
-    (lining-room _ _ _ _ _ _ _ _ _ _ _ _ g (t .loop-test .taken), ((g .few, g .cells), (g .ends, g .demands, lining-stops _ _ _ _ _ _ _ _ _ _ _ _ g (t .loop-test .taken), lining-prints _ _ _ _ _ _ _ _ _ _ _ _ g (t .loop-test .taken))))
+    let g = t .before .loop .inv in (
+      lining-room _ _ _ _ _ _ _ _ _ _ _ _ g (t .loop-test .taken) _ (search needs) _ (search needs),
+      ((g .few, g .cells), (g .ends, g .demands, lining-stops _ _ _ _ _ _ _ _ _ _ _ _ g (t .loop-test .taken) _ (search needs), lining-prints _ _ _ _ _ _ _ _ _ _ _ _ g (t .loop-test .taken) _ (search needs))),
+    )
 
 add-k : tie.Need-add-k Inv-loop μ-loop
 add-k c = search needs
@@ -72,7 +74,7 @@ loop-again : tie.Need-loop-again Inv-loop μ-loop
 loop-again c =
     let r = c .before .before in
     let t = r .before .before .before .before in
-    lining-more _ _ _ _ _ _ _ _ _ _ _ _ (t .before .loop .inv) (t .loop-test .taken) _ _ (r .put-route .ensures)
+    lining-more _ _ _ _ _ _ _ _ _ _ _ _ (t .before .loop .inv) (t .loop-test .taken) _ (search needs) _ (search needs) _ _ _ _ (r .put-route .ensures) (search needs) (search needs)
 
 same-length : tie.Need-same-length Inv-loop μ-loop
 same-length c = c .before .loop .inv .lines .size
