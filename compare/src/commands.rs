@@ -7,7 +7,7 @@ use comparison::model::Model;
 use comparison::original::Original;
 use comparison::ported::Port;
 use comparison::problem::Side;
-use comparison::{answers, cases, generate, replay, run, ORIGINAL};
+use comparison::{answers, bench, cases, generate, replay, run, ORIGINAL};
 
 const USAGE: &str = "compare [COUNT] [SEED]           compares COUNT calls (20000) of SEED (1)
 compare --case CASE [PLACES]     prints the case of that number with every side's answers
@@ -24,6 +24,14 @@ pub fn run(words: &[String]) -> i32 {
         Some(word) if word.starts_with("--") => (word.as_str(), &words[1..]),
         _ => ("", words),
     };
+    match (command, words) {
+        ("--bench", _) => return bench(words),
+        ("--bench-once", [side, name]) => {
+            bench::once(&bench::bench(name).unwrap(), side);
+            return 0;
+        }
+        _ => {}
+    }
     let Ok(numbers) = words.iter().map(|word| word.parse()).collect::<Result<Vec<u64>, _>>() else {
         return wrong_usage();
     };
@@ -36,9 +44,6 @@ pub fn run(words: &[String]) -> i32 {
         ("--answers", [count, seed]) => print_answers(*count, *seed, 8, 100),
         ("--answers", [count, seed, places]) => print_answers(*count, *seed, *places as usize, 100),
         ("--answers", [count, seed, places, steps]) => print_answers(*count, *seed, *places as usize, *steps),
-        ("--time", []) => time(20_000, 1),
-        ("--time", [count]) => time(*count, 1),
-        ("--time", [count, seed]) => time(*count, *seed),
         ("--replay", [count, seed]) => print_replay(*count, *seed, 8, 100),
         ("--replay", [count, seed, places]) => print_replay(*count, *seed, *places as usize, 100),
         ("--replay", [count, seed, places, steps]) => print_replay(*count, *seed, *places as usize, *steps),
@@ -107,9 +112,27 @@ fn print_answers(count: u64, seed: u64, places: usize, steps: u64) -> i32 {
     0
 }
 
-fn time(count: u64, seed: u64) -> i32 {
-    println!("the time of {count} calls, seed {seed}, in milliseconds");
-    run::time(&mut Original::default(), &mut Port::default(), count, seed).print();
+/// The benchmarks whose names begin with one of the words, or all.
+fn bench(words: &[String]) -> i32 {
+    let chosen: Vec<&str> = bench::names().filter(|name| words.is_empty() || words.iter().any(|word| name.starts_with(word.as_str()))).collect();
+    let valgrind = bench::there();
+    for name in chosen {
+        let bench = bench::bench(name).unwrap();
+        let did = match bench::agreed(&bench) {
+            Ok(did) => did,
+            Err(why) => {
+                println!("{why}");
+                return 1;
+            }
+        };
+        println!("{name}: {did}");
+        let [first, second] = bench::times(&bench);
+        println!("  ms {:.4} {:.4} ratio {:.3}", first * 1e3, second * 1e3, second / first);
+        if valgrind {
+            let [first, second] = bench::SIDES.map(|side| bench::count(name, side).unwrap() / bench.repeat);
+            println!("  instructions {first} {second} ratio {:.3}", second as f64 / first as f64);
+        }
+    }
     0
 }
 
