@@ -1,5 +1,5 @@
 //! The commands: a run of the comparison, one case in full, cases with the original's answers, for people and for the program replay, and
-//! the time of both.
+//! the benchmarks.
 
 use std::panic::{catch_unwind, AssertUnwindSafe};
 
@@ -16,7 +16,8 @@ compare --answers N SEED [PLACES] [STEPS]
                                  and with at most STEPS steps (100) in a call
 compare --replay N SEED [PLACES] [STEPS]
                                  prints N such cases, the twelve and some for every row, for the program replay
-compare --time [COUNT] [SEED]    the time that original and port take for COUNT calls (20000) of SEED (1)";
+compare --bench [NAME ..]        measures original and port, all benchmarks or those of these names
+compare --bench-once SIDE NAME   makes the calls of one benchmark on one side, original or port";
 
 /// Runs the command that the words name, and returns its exit status.
 pub fn run(words: &[String]) -> i32 {
@@ -25,11 +26,8 @@ pub fn run(words: &[String]) -> i32 {
         _ => ("", words),
     };
     match (command, words) {
-        ("--bench", _) => return bench(words),
-        ("--bench-once", [side, name]) => {
-            bench::once(&bench::bench(name).unwrap(), side);
-            return 0;
-        }
+        ("--bench", words) => return bench::run(words),
+        ("--bench-once", [side, name]) => return bench::once(side, name),
         _ => {}
     }
     let Ok(numbers) = words.iter().map(|word| word.parse()).collect::<Result<Vec<u64>, _>>() else {
@@ -109,30 +107,6 @@ fn print_answers(count: u64, seed: u64, places: usize, steps: u64) -> i32 {
         return wrong_usage();
     }
     answers::print(&mut Original::default(), count, seed, places, steps);
-    0
-}
-
-/// The benchmarks whose names begin with one of the words, or all.
-fn bench(words: &[String]) -> i32 {
-    let chosen: Vec<&str> = bench::names().filter(|name| words.is_empty() || words.iter().any(|word| name.starts_with(word.as_str()))).collect();
-    let valgrind = bench::there();
-    for name in chosen {
-        let bench = bench::bench(name).unwrap();
-        let did = match bench::agreed(&bench) {
-            Ok(did) => did,
-            Err(why) => {
-                println!("{why}");
-                return 1;
-            }
-        };
-        println!("{name}: {did}");
-        let [first, second] = bench::times(&bench);
-        println!("  ms {:.4} {:.4} ratio {:.3}", first * 1e3, second * 1e3, second / first);
-        if valgrind {
-            let [first, second] = bench::SIDES.map(|side| bench::count(name, side).unwrap() / bench.repeat);
-            println!("  instructions {first} {second} ratio {:.3}", second as f64 / first as f64);
-        }
-    }
     0
 }
 

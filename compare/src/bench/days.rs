@@ -43,12 +43,12 @@ pub fn day(kind: Kind, stops: usize, count: usize) -> (Problem, Routes) {
     (problem, routes)
 }
 
-/// A day of 256 places with one long route over 250 stops, which meets its windows.
-pub fn long_route() -> (Problem, Vec<usize>) {
+/// A day of `places` places with one long route, of at most 250 stops, which meets its windows.
+pub fn long_route(places: usize) -> (Problem, Vec<usize>) {
     let mut random = Random::new(250);
-    let points: Vec<(f64, f64)> = (0..256).map(|_| (60.0 * random.unit(), 60.0 * random.unit())).collect();
+    let points: Vec<(f64, f64)> = (0..places).map(|_| (60.0 * random.unit(), 60.0 * random.unit())).collect();
     let mut problem = bare(&points, &mut random);
-    let mut stops: Vec<usize> = (1..=250).collect();
+    let mut stops: Vec<usize> = (1..places.min(251)).collect();
     nearest_first(&points, &mut stops);
     windows(&mut problem, &vec![stops.clone()], 80, 20.0, &mut random);
     (problem, stops)

@@ -1,88 +1,172 @@
 //! The benchmarks: the same calls made by the original and by the port, in instructions and in time.
 //!
-//! What is measured is the call alone, on data in each side's own form that is made ready before. The port's entry checks are in its
-//! calls; the original has none. Before anything is measured both answers and both plans are held against each other, bit for bit.
+//! What is measured is the call alone, on data in each side's own form that is made ready before. The port's entry checks are in its calls;
+//! the original has none. Every call that is measured must give the same answer and the same plan on both sides, bit for bit, and in the
+//! model.
 
 mod days;
 mod list;
+mod tables;
 mod valgrind;
 
 use std::hint::black_box;
 use std::time::{Duration, Instant};
 
-use crate::events::Event;
+use crate::events::{Event, Events};
 use crate::model::Model;
-use crate::original::{self, Original};
-use crate::ported::{self, Port};
-use crate::problem::{Answer, Call, Side};
-pub use list::{bench, names, Bench};
-pub use valgrind::{count, profile, there};
+use crate::original;
+use crate::ported;
+use crate::problem::{Answer, Call, Plan, Side};
+use list::{asked, bench, names, Bench};
 
-/// The two sides' names, in the order of every table.
-pub const SIDES: [&str; 2] = ["original", "port"];
+/// The two sides, in the order of every table.
+const SIDES: [&str; 2] = ["original", "port"];
 
-/// What callgrind counts: the calls made in here, and nothing else. It is found by its name.
+/// What one benchmark came to, for the original and for the port.
+struct Figures {
+    bench: Bench,
+    /// What the call did, in words.
+    did: String,
+    steps: Option<u64>,
+    /// Of one call; none where valgrind is not there.
+    instructions: Option<[u64; 2]>,
+    /// Of one call, the shortest.
+    seconds: [f64; 2],
+}
+
+/// Measures the benchmarks that the words name, or all, and prints the tables. The exit status: 1 where the sides differ, 2 where a word
+/// names none.
+pub fn run(words: &[String]) -> i32 {
+    let mut chosen: Vec<&str> = words.iter().flat_map(|word| asked(word)).collect();
+    if words.is_empty() {
+        chosen = names().collect();
+    } else if let Some(word) = words.iter().find(|word| asked(word).is_empty()) {
+        eprintln!("compare: there is no benchmark '{word}'; there are: {}", names().collect::<Vec<_>>().join(" "));
+        return 2;
+    }
+    let counts = valgrind::there();
+    if !counts {
+        println!("valgrind is not there: times only, no instructions.\n");
+    }
+    tables::head();
+    let mut all = vec![];
+    for name in chosen {
+        match measured(bench(name).expect("a name of the list"), counts) {
+            Ok(figures) => {
+                tables::row(&figures);
+                all.push(figures);
+            }
+            Err(why) => {
+                println!("\n{name}: {why}");
+                return 1;
+            }
+        }
+    }
+    tables::growth(&all);
+    tables::done(&all);
+    0
+}
+
+/// Makes the calls of one benchmark on one side and prints what they gave: what callgrind runs.
+pub fn once(side: &str, name: &str) -> i32 {
+    match bench(name) {
+        Some(bench) if SIDES.contains(&side) => {
+            println!("{}", made(&bench, side).1);
+            0
+        }
+        _ => 2,
+    }
+}
+
+/// What callgrind counts: the calls that are made in here, and nothing else. It is found by this name.
 #[no_mangle]
 #[inline(never)]
-pub fn bench_region(times: u64, make: &mut dyn FnMut()) {
+fn bench_region(times: u64, make: &mut dyn FnMut()) {
     for _ in 0..times {
         make();
     }
     black_box(times);
 }
 
-/// Makes the calls of a benchmark once on one side, and says how long they took.
-pub fn once(bench: &Bench, side: &str) -> Duration {
+/// Makes the calls of a benchmark on one side: how long they took, and the last answer with the plan after it.
+fn made(bench: &Bench, side: &str) -> (Duration, String) {
     let Bench { problem, plan, call, repeat, .. } = bench;
     if side == SIDES[0] {
         let mut ready = original::Ready::new(problem, plan, call);
-        took(*repeat, &mut || drop(black_box(black_box(&mut ready).make())))
+        let mut answer = Answer::Panicked;
+        let took = timed(*repeat, &mut || answer = black_box(&mut ready).make());
+        let mut left = plan.clone();
+        left.write(&ready.routes);
+        (took, line(&answer, &left))
     } else {
         let mut ready = ported::Ready::new(problem, plan, call);
-        took(*repeat, &mut || {
-            black_box(black_box(&mut ready).make());
-        })
+        let mut number = 0;
+        let took = timed(*repeat, &mut || number = black_box(&mut ready).make());
+        let answer = if number == 0 { ready.answer() } else { Answer::Refused(number) };
+        (took, line(&answer, &ready.plan))
     }
 }
 
-fn took(repeat: u64, make: &mut dyn FnMut()) -> Duration {
+fn timed(times: u64, make: &mut dyn FnMut()) -> Duration {
     let began = Instant::now();
-    bench_region(repeat, make);
+    bench_region(times, make);
     began.elapsed()
 }
 
-/// The shortest time of each side for one call, the sides by turns.
-pub fn times(bench: &Bench) -> [f64; 2] {
-    let mut best = [f64::INFINITY; 2];
+/// Equal lines are equal answers and plans.
+fn line(answer: &Answer, plan: &Plan) -> String {
+    format!("{} {:?} {:?}", answer.line(), plan.lengths, plan.stops)
+}
+
+/// Measures one benchmark: the times of both sides by turns, then the instructions. Or what differs from the model's answer.
+fn measured(bench: Bench, counts: bool) -> Result<Figures, String> {
+    let mut model = Model::default();
+    let mut plan = bench.plan.clone();
+    let answer = model.call(&bench.problem, &mut plan, &bench.call);
+    let right = line(&answer, &plan);
+    let same = |side: &str, said: &str| {
+        if said == right {
+            Ok(())
+        } else {
+            Err(format!("the {side} answers\n{said}\nand the model\n{right}"))
+        }
+    };
+    let mut seconds = [f64::INFINITY; 2];
     let began = Instant::now();
     let mut turns = 0;
-    while turns < 3 || turns < 50 && began.elapsed() < Duration::from_millis(1000) {
-        for (side, best) in SIDES.iter().zip(&mut best) {
-            *best = best.min(once(bench, side).as_secs_f64() / bench.repeat as f64);
+    while turns < 5 || turns < 100 && began.elapsed() < Duration::from_secs(1) {
+        for (side, best) in SIDES.into_iter().zip(&mut seconds) {
+            let (took, said) = made(&bench, side);
+            same(side, &said)?;
+            *best = best.min(took.as_secs_f64() / bench.repeat as f64);
         }
         turns += 1;
     }
-    best
+    let mut instructions = None;
+    if counts {
+        let mut both = [0; 2];
+        for (side, count) in SIDES.into_iter().zip(&mut both) {
+            let (collected, said) = valgrind::count(side, bench.name)?;
+            same(side, &said)?;
+            *count = collected / bench.repeat;
+        }
+        instructions = Some(both);
+    }
+    let steps = match answer {
+        Answer::Minimised { steps, .. } => Some(steps),
+        _ => None,
+    };
+    Ok(Figures { did: did(&bench, &answer, &model.events), bench, steps, instructions, seconds })
 }
 
-/// Whether both sides and the model give the same answer and plan; what the call did, or what differs.
-pub fn agreed(bench: &Bench) -> Result<String, String> {
-    let mut model = Model::default();
-    let mut right = bench.plan.clone();
-    let answer = Original.call(&bench.problem, &mut right, &bench.call);
-    for side in [&mut Port::default() as &mut dyn Side, &mut model] {
-        let mut plan = bench.plan.clone();
-        let said = side.call(&bench.problem, &mut plan, &bench.call);
-        if said.line() != answer.line() || plan != right {
-            return Err(format!("{}: the {} answers {}, the original {}", bench.name, side.name(), said.line(), answer.line()));
-        }
-    }
+/// What a call did, in words.
+fn did(bench: &Bench, answer: &Answer, events: &Events) -> String {
     let given = bench.plan.lengths.len();
-    let count = |event| model.events.count(event);
-    Ok(match (&bench.call, &answer) {
+    let count = |event| events.count(event);
+    match (&bench.call, answer) {
         (Call::Minimise { .. }, Answer::Minimised { routes, steps, draws }) => format!(
-            "{given} routes to {routes}, {steps} steps, {draws} draws; {} attempts accepted, {} stopped by M, {} without an ejection; \
-             {} insertions, {} single and {} double ejections, {} exchanges and {} tail swaps stand",
+            "{given} routes to {routes}, {steps} steps, {draws} draws; attempts: {} accepted, {} stopped by M, {} without an ejection; \
+             {} insertions, {} single and {} double ejections; {} exchanges and {} tail swaps stand",
             count(Event::Accepted),
             count(Event::StoppedByLimit),
             count(Event::NoEjection),
@@ -92,7 +176,10 @@ pub fn agreed(bench: &Bench) -> Result<String, String> {
             count(Event::Exchange),
             count(Event::TailSwap),
         ),
-        (_, Answer::Eliminated { routes }) => format!("{given} routes to {routes}"),
+        (_, Answer::Eliminated { routes }) => {
+            let refused = count(Event::CandidateRefused);
+            format!("{given} routes to {routes}; the check refuses {refused} candidates")
+        }
         _ => answer.line(),
-    })
+    }
 }
