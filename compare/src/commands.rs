@@ -56,7 +56,7 @@ fn wrong_usage() -> i32 {
 
 fn compare(count: u64, seed: u64) -> i32 {
     println!("the original in {ORIGINAL} against the model and the port: {count} calls, seed {seed}");
-    let mut original = Original::default();
+    let mut original = Original;
     let mut model = Model::default();
     let mut fault = false;
     for side in [&mut original as &mut dyn Side, &mut Model::default(), &mut Port::default()] {
@@ -95,7 +95,7 @@ fn one_case(seed: u64, places: usize) -> i32 {
         return wrong_usage();
     }
     let case = generate::case(seed, places);
-    for side in [&mut Original::default() as &mut dyn Side, &mut Model::default(), &mut Port::default()] {
+    for side in [&mut Original as &mut dyn Side, &mut Model::default(), &mut Port::default()] {
         println!("# {}", side.name());
         answers::print_case(side, &case);
     }
@@ -106,7 +106,7 @@ fn print_answers(count: u64, seed: u64, places: usize, steps: u64) -> i32 {
     if places == 0 {
         return wrong_usage();
     }
-    answers::print(&mut Original::default(), count, seed, places, steps);
+    answers::print(&mut Original, count, seed, places, steps);
     0
 }
 
@@ -114,6 +114,6 @@ fn print_replay(count: u64, seed: u64, places: usize, steps: u64) -> i32 {
     if places == 0 {
         return wrong_usage();
     }
-    replay::print(&mut Original::default(), count, seed, places, steps);
+    replay::print(&mut Original, count, seed, places, steps);
     0
 }

@@ -10,7 +10,6 @@ use crate::models::{Customer, TimeWindow, Vehicle, VehicleBreak};
 use crate::problem::{Answer, Break, Call, Eval, Plan, Problem, Side};
 use crate::stand_ins::{Deadline, Tape};
 
-#[derive(Default)]
 pub struct Original;
 
 impl Side for Original {

@@ -4,6 +4,7 @@
 //! the original has none. Every call that is measured must give the same answer and the same plan on both sides, bit for bit, and in the
 //! model.
 
+mod clock;
 mod days;
 mod list;
 mod tables;
@@ -19,6 +20,10 @@ use crate::ported;
 use crate::problem::{Answer, Call, Plan, Side};
 use list::{asked, bench, names, Bench};
 
+/// How often a call that is repeated is made to be counted, and to be timed.
+const COUNTED: u64 = 20;
+const TIMED: u64 = 1000;
+
 /// The two sides, in the order of every table.
 const SIDES: [&str; 2] = ["original", "port"];
 
@@ -27,10 +32,10 @@ struct Figures {
     bench: Bench,
     /// What the call did, in words.
     did: String,
-    steps: Option<u64>,
+    answer: Answer,
     /// Of one call; none where valgrind is not there.
     instructions: Option<[u64; 2]>,
-    /// Of one call, the shortest.
+    /// The processor time of one call, the shortest.
     seconds: [f64; 2],
 }
 
@@ -71,7 +76,7 @@ pub fn run(words: &[String]) -> i32 {
 pub fn once(side: &str, name: &str) -> i32 {
     match bench(name) {
         Some(bench) if SIDES.contains(&side) => {
-            println!("{}", made(&bench, side).1);
+            println!("{}", made(&bench, side, times(&bench, COUNTED)).1);
             0
         }
         _ => 2,
@@ -88,29 +93,37 @@ fn bench_region(times: u64, make: &mut dyn FnMut()) {
     black_box(times);
 }
 
-/// Makes the calls of a benchmark on one side: how long they took, and the last answer with the plan after it.
-fn made(bench: &Bench, side: &str) -> (Duration, String) {
-    let Bench { problem, plan, call, repeat, .. } = bench;
+fn times(bench: &Bench, repeated: u64) -> u64 {
+    if bench.repeated {
+        repeated
+    } else {
+        1
+    }
+}
+
+/// Makes the call of a benchmark on one side: how long all times took, and the last answer with the plan after it.
+fn made(bench: &Bench, side: &str, times: u64) -> (Duration, String) {
+    let Bench { problem, plan, call, .. } = bench;
     if side == SIDES[0] {
         let mut ready = original::Ready::new(problem, plan, call);
         let mut answer = Answer::Panicked;
-        let took = timed(*repeat, &mut || answer = black_box(&mut ready).make());
+        let took = timed(times, &mut || answer = black_box(&mut ready).make());
         let mut left = plan.clone();
         left.write(&ready.routes);
         (took, line(&answer, &left))
     } else {
         let mut ready = ported::Ready::new(problem, plan, call);
         let mut number = 0;
-        let took = timed(*repeat, &mut || number = black_box(&mut ready).make());
+        let took = timed(times, &mut || number = black_box(&mut ready).make());
         let answer = if number == 0 { ready.answer() } else { Answer::Refused(number) };
         (took, line(&answer, &ready.plan))
     }
 }
 
 fn timed(times: u64, make: &mut dyn FnMut()) -> Duration {
-    let began = Instant::now();
+    let began = clock::spent();
     bench_region(times, make);
-    began.elapsed()
+    clock::spent() - began
 }
 
 /// Equal lines are equal answers and plans.
@@ -133,12 +146,12 @@ fn measured(bench: Bench, counts: bool) -> Result<Figures, String> {
     };
     let mut seconds = [f64::INFINITY; 2];
     let began = Instant::now();
-    let mut turns = 0;
+    let (mut turns, often) = (0, times(&bench, TIMED));
     while turns < 5 || turns < 100 && began.elapsed() < Duration::from_secs(1) {
         for (side, best) in SIDES.into_iter().zip(&mut seconds) {
-            let (took, said) = made(&bench, side);
+            let (took, said) = made(&bench, side, often);
             same(side, &said)?;
-            *best = best.min(took.as_secs_f64() / bench.repeat as f64);
+            *best = best.min(took.as_secs_f64() / often as f64);
         }
         turns += 1;
     }
@@ -148,15 +161,11 @@ fn measured(bench: Bench, counts: bool) -> Result<Figures, String> {
         for (side, count) in SIDES.into_iter().zip(&mut both) {
             let (collected, said) = valgrind::count(side, bench.name)?;
             same(side, &said)?;
-            *count = collected / bench.repeat;
+            *count = collected / times(&bench, COUNTED);
         }
         instructions = Some(both);
     }
-    let steps = match answer {
-        Answer::Minimised { steps, .. } => Some(steps),
-        _ => None,
-    };
-    Ok(Figures { did: did(&bench, &answer, &model.events), bench, steps, instructions, seconds })
+    Ok(Figures { did: did(&bench, &answer, &model.events), bench, answer, instructions, seconds })
 }
 
 /// What a call did, in words.
@@ -176,10 +185,12 @@ fn did(bench: &Bench, answer: &Answer, events: &Events) -> String {
             count(Event::Exchange),
             count(Event::TailSwap),
         ),
-        (_, Answer::Eliminated { routes }) => {
-            let refused = count(Event::CandidateRefused);
-            format!("{given} routes to {routes}; the check refuses {refused} candidates")
-        }
+        (_, Answer::Eliminated { routes }) => format!(
+            "{given} routes to {routes}; attempts: {} accepted, {} cut by what is saved, {} with no place for a stop",
+            count(Event::EliminatedHard) + count(Event::EliminatedSoft),
+            count(Event::Cut),
+            count(Event::NoPlace),
+        ),
         _ => answer.line(),
     }
 }

@@ -1,7 +1,7 @@
 //! The tables of the benchmarks, in Markdown.
 
 use super::Figures;
-use crate::problem::Call;
+use crate::problem::{Answer, Call};
 
 /// The head of the main table; its rows follow as they are measured.
 pub fn head() {
@@ -16,38 +16,43 @@ pub fn row(figures: &Figures) {
         None => "- | - | -".to_string(),
     };
     let [original, port] = *seconds;
-    let timed = format!("{} | {} | {:.2}", span(original), span(port), port / original);
+    let timed = format!("{} | {} | {}", span(original), span(port), digits(port / original));
     println!("| {} | {} | {counted} | {timed} |", bench.name, bench.about);
 }
 
-/// How the minimise calls with windows grow, if more than one was counted.
+/// How instructions grow with the size of the call: minimise with windows by stops, routes and M, eliminate by stops.
 pub fn growth(all: &[Figures]) {
-    let mut rows = vec![];
-    for figures in all {
-        let (Call::Minimise { limit, .. }, Some(steps), Some(counts)) =
-            (&figures.bench.call, figures.steps, figures.instructions)
-        else {
-            continue;
+    let (mut minimised, mut eliminated) = (vec![], vec![]);
+    for figures in all.iter().filter(|figures| figures.bench.grows) {
+        let Some([original, port]) = figures.instructions else {
+            return;
         };
-        if figures.bench.name.starts_with("growth-") || figures.bench.name == "minimise-windows" {
-            let (stops, routes) = (figures.bench.plan.stops.len(), figures.bench.plan.lengths.len());
-            rows.push((stops, routes, *limit, steps, counts));
+        let (stops, routes) = (figures.bench.plan.stops.len(), figures.bench.plan.lengths.len());
+        let counts = format!("{} | {} | {}", grouped(original), grouped(port), ratio(original, port));
+        match (&figures.bench.call, &figures.answer) {
+            (Call::Minimise { limit, .. }, Answer::Minimised { steps, .. }) => {
+                let each = format!("{} | {}", grouped(original / steps), grouped(port / steps));
+                minimised.push((stops, routes, *limit, format!("{} | {counts} | {each}", grouped(*steps))));
+            }
+            (_, Answer::Eliminated { routes: left }) => eliminated.push((stops, format!("{left} | {counts}"))),
+            _ => {}
         }
     }
-    if rows.len() < 2 {
-        return;
+    if minimised.len() > 1 {
+        minimised.sort();
+        println!("\n| minimise: stops | routes | M | steps | instructions, original | port | ratio | a step, original | port |");
+        println!("|--:|--:|--:|--:|--:|--:|--:|--:|--:|");
+        for (stops, routes, limit, rest) in minimised {
+            println!("| {stops} | {routes} | {limit} | {rest} |");
+        }
     }
-    rows.sort();
-    println!("\n| stops | routes | M | steps | instructions, original | port | a step, original | port | ratio |");
-    println!("|--:|--:|--:|--:|--:|--:|--:|--:|--:|");
-    for (stops, routes, limit, steps, [original, port]) in rows {
-        let each = format!("{} | {}", grouped(original / steps.max(1)), grouped(port / steps.max(1)));
-        let counts = format!("{} | {}", grouped(original), grouped(port));
-        println!(
-            "| {stops} | {routes} | {limit} | {} | {counts} | {each} | {} |",
-            grouped(steps),
-            ratio(original, port)
-        );
+    if eliminated.len() > 1 {
+        eliminated.sort();
+        println!("\n| eliminate: stops, each a route | routes left | instructions, original | port | ratio |");
+        println!("|--:|--:|--:|--:|--:|");
+        for (stops, rest) in eliminated {
+            println!("| {stops} | {rest} |");
+        }
     }
 }
 
@@ -60,11 +65,17 @@ pub fn done(all: &[Figures]) {
 }
 
 fn ratio(original: u64, port: u64) -> String {
-    let ratio = port as f64 / original as f64;
-    if ratio < 100.0 {
+    digits(port as f64 / original as f64)
+}
+
+/// A ratio with three digits, or all before the point.
+fn digits(ratio: f64) -> String {
+    if ratio < 10.0 {
         format!("{ratio:.2}")
+    } else if ratio < 100.0 {
+        format!("{ratio:.1}")
     } else {
-        grouped(ratio as u64)
+        grouped(ratio.round() as u64)
     }
 }
 
@@ -73,7 +84,7 @@ fn grouped(number: u64) -> String {
     let digits = number.to_string();
     let mut out = String::new();
     for (i, digit) in digits.chars().enumerate() {
-        if i > 0 && (digits.len() - i) % 3 == 0 {
+        if i > 0 && (digits.len() - i).is_multiple_of(3) {
             out.push(',');
         }
         out.push(digit);
