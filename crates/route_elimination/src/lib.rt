@@ -9,6 +9,7 @@ ghost use Rattle.route_elimination.specs.Eliminating.{Eliminating};
 use crate::round::try_next;
 use evaluation::check::has_soft_windows;
 use local_search::feasible::constrained;
+use local_search::route::gain_floor;
 use local_search::rounds::Next;
 use models::vehicle::Vehicle;
 use plan::drop_empty;
@@ -42,6 +43,7 @@ pub fn eliminate_routes(
 {
     let soft = has_soft_windows(flags);
     let needed = constrained(flags, vehicle);
+    let floor = gain_floor(distances);
     'search: loop {
         let count = drop_empty(lengths);
         let mut last = Pick::Nothing;
@@ -51,6 +53,7 @@ pub fn eliminate_routes(
                 stops,
                 work,
                 last,
+                floor,
                 soft,
                 needed,
                 vehicle,
