@@ -141,7 +141,7 @@ fn try_positions(
 
 // Whether no position of what is kept ranks before the best so far, whatever the tests say of it.
 fn none_outranks(
-    left: &[u16],
+    kept: &[u16],
     failed: u32,
     c: usize,
     best: Best,
@@ -150,12 +150,12 @@ fn none_outranks(
     distances: &[f64],
 ) -> bool
     requires { ⌜ (n ≤ 256) × (length (now distances) ≡ n * n) ⌝ }
-    requires { ⌜ (depot < n) × (c < n) × Stops n (now left) ⌝ }
-    ensures { λ r. ⌜ r ≡ none-outranks (matrix n (now (distances .entry)) []) depot c failed (now (left .entry)) (chosen best) ⌝ }
+    requires { ⌜ (depot < n) × (c < n) × Stops n (now kept) ⌝ }
+    ensures { λ r. ⌜ r ≡ none-outranks (matrix n (now (distances .entry)) []) depot c failed (now (kept .entry)) (chosen best) ⌝ }
 {
     let mut pos = 0;
-    while pos <= left.len() {
-        let cost = insertion_cost(left, pos, c, depot, n, distances);
+    while pos <= kept.len() {
+        let cost = insertion_cost(kept, pos, c, depot, n, distances);
         if crate::outranks(failed, cost, best) {
             return false;
         }

@@ -16,11 +16,11 @@ use Rattle.ejection.proofs.search.none_outranks.Statement.{statement}
 use Rattle.ejection.proofs.search.none_outranks.Tie as tie
 
 abbrev Inv-loop : tie.InvT-loop
-Inv-loop left failed c best depot n distances pos₀ pos =
-    Passed (λ q. not (outranks failed (insertion-cost (matrix n distances []) depot left q c) (chosen best))) (suc (length left)) pos
+Inv-loop kept failed c best depot n distances pos₀ pos =
+    Passed (λ q. not (outranks failed (insertion-cost (matrix n distances []) depot kept q c) (chosen best))) (suc (length kept)) pos
 
 abbrev μ-loop : tie.MeasureT-loop
-μ-loop left failed c best depot n distances pos₀ pos = suc (length left) - pos
+μ-loop kept failed c best depot n distances pos₀ pos = suc (length kept) - pos
 
 loop-holds : tie.Need-loop-holds Inv-loop μ-loop
 loop-holds c = search every-laws
