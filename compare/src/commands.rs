@@ -1,5 +1,5 @@
 //! The commands: a run of the comparison, one case in full, cases with the original's answers, for people and for the program replay, and
-//! the time of both.
+//! the benchmarks.
 
 use std::panic::{catch_unwind, AssertUnwindSafe};
 
@@ -7,7 +7,7 @@ use comparison::model::Model;
 use comparison::original::Original;
 use comparison::ported::Port;
 use comparison::problem::Side;
-use comparison::{answers, cases, generate, replay, run, ORIGINAL};
+use comparison::{answers, bench, cases, generate, replay, run, ORIGINAL};
 
 const USAGE: &str = "compare [COUNT] [SEED]           compares COUNT calls (20000) of SEED (1)
 compare --case CASE [PLACES]     prints the case of that number with every side's answers
@@ -16,7 +16,8 @@ compare --answers N SEED [PLACES] [STEPS]
                                  and with at most STEPS steps (100) in a call
 compare --replay N SEED [PLACES] [STEPS]
                                  prints N such cases, the twelve and some for every row, for the program replay
-compare --time [COUNT] [SEED]    the time that original and port take for COUNT calls (20000) of SEED (1)";
+compare --bench [NAME ..]        measures original and port, all benchmarks or those of these names
+compare --bench-once SIDE NAME   makes the calls of one benchmark on one side, original or port";
 
 /// Runs the command that the words name, and returns its exit status.
 pub fn run(words: &[String]) -> i32 {
@@ -24,6 +25,11 @@ pub fn run(words: &[String]) -> i32 {
         Some(word) if word.starts_with("--") => (word.as_str(), &words[1..]),
         _ => ("", words),
     };
+    match (command, words) {
+        ("--bench", words) => return bench::run(words),
+        ("--bench-once", [side, name]) => return bench::once(side, name),
+        _ => {}
+    }
     let Ok(numbers) = words.iter().map(|word| word.parse()).collect::<Result<Vec<u64>, _>>() else {
         return wrong_usage();
     };
@@ -36,9 +42,6 @@ pub fn run(words: &[String]) -> i32 {
         ("--answers", [count, seed]) => print_answers(*count, *seed, 8, 100),
         ("--answers", [count, seed, places]) => print_answers(*count, *seed, *places as usize, 100),
         ("--answers", [count, seed, places, steps]) => print_answers(*count, *seed, *places as usize, *steps),
-        ("--time", []) => time(20_000, 1),
-        ("--time", [count]) => time(*count, 1),
-        ("--time", [count, seed]) => time(*count, *seed),
         ("--replay", [count, seed]) => print_replay(*count, *seed, 8, 100),
         ("--replay", [count, seed, places]) => print_replay(*count, *seed, *places as usize, 100),
         ("--replay", [count, seed, places, steps]) => print_replay(*count, *seed, *places as usize, *steps),
@@ -53,7 +56,7 @@ fn wrong_usage() -> i32 {
 
 fn compare(count: u64, seed: u64) -> i32 {
     println!("the original in {ORIGINAL} against the model and the port: {count} calls, seed {seed}");
-    let mut original = Original::default();
+    let mut original = Original;
     let mut model = Model::default();
     let mut fault = false;
     for side in [&mut original as &mut dyn Side, &mut Model::default(), &mut Port::default()] {
@@ -92,7 +95,7 @@ fn one_case(seed: u64, places: usize) -> i32 {
         return wrong_usage();
     }
     let case = generate::case(seed, places);
-    for side in [&mut Original::default() as &mut dyn Side, &mut Model::default(), &mut Port::default()] {
+    for side in [&mut Original as &mut dyn Side, &mut Model::default(), &mut Port::default()] {
         println!("# {}", side.name());
         answers::print_case(side, &case);
     }
@@ -103,13 +106,7 @@ fn print_answers(count: u64, seed: u64, places: usize, steps: u64) -> i32 {
     if places == 0 {
         return wrong_usage();
     }
-    answers::print(&mut Original::default(), count, seed, places, steps);
-    0
-}
-
-fn time(count: u64, seed: u64) -> i32 {
-    println!("the time of {count} calls, seed {seed}, in milliseconds");
-    run::time(&mut Original::default(), &mut Port::default(), count, seed).print();
+    answers::print(&mut Original, count, seed, places, steps);
     0
 }
 
@@ -117,6 +114,6 @@ fn print_replay(count: u64, seed: u64, places: usize, steps: u64) -> i32 {
     if places == 0 {
         return wrong_usage();
     }
-    replay::print(&mut Original::default(), count, seed, places, steps);
+    replay::print(&mut Original, count, seed, places, steps);
     0
 }

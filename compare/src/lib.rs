@@ -9,6 +9,8 @@ extern crate self as u_metaheur;
 include!(concat!(env!("OUT_DIR"), "/tree.rs"));
 
 pub mod answers;
+#[cfg(original)]
+pub mod bench;
 pub mod cases;
 pub mod checks;
 pub mod claim;

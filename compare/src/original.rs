@@ -1,6 +1,6 @@
 //! The side of the original: its own functions on its own types, behind the entry checks.
 
-use std::time::{Duration, Instant};
+use std::mem::take;
 
 use crate::checks::refusal;
 use crate::distance::DistanceMatrix;
@@ -10,10 +10,7 @@ use crate::models::{Customer, TimeWindow, Vehicle, VehicleBreak};
 use crate::problem::{Answer, Break, Call, Eval, Plan, Problem, Side};
 use crate::stand_ins::{Deadline, Tape};
 
-#[derive(Default)]
-pub struct Original {
-    took: Duration,
-}
+pub struct Original;
 
 impl Side for Original {
     fn name(&self) -> &'static str {
@@ -25,34 +22,62 @@ impl Side for Original {
             return Answer::Refused(number);
         }
         if let Call::TimeWindowNew { ready, due } = call {
-            let began = Instant::now();
             let window = TimeWindow::new(*ready, *due);
-            self.took = began.elapsed();
             return Answer::Window(window.map(|window| (window.ready(), window.due())));
         }
-        let places = places(problem);
-        let distances = distances(problem);
+        let mut ready = Ready::new(problem, plan, call);
+        let answer = ready.make();
+        if call.has_plan() {
+            plan.write(&ready.routes);
+        }
+        answer
+    }
+}
+
+/// A call that no row refuses, with all that it takes in the original's own form. `time_window_new` is none of these.
+pub struct Ready<'a> {
+    call: &'a Call,
+    places: Vec<Customer>,
+    distances: DistanceMatrix,
+    vehicle: Vehicle,
+    limits: RouteLimits,
+    route: Vec<usize>,
+    /// The plan, and after `make` the one that the call answers.
+    pub routes: Vec<Vec<usize>>,
+}
+
+impl<'a> Ready<'a> {
+    pub fn new(problem: &Problem, plan: &Plan, call: &'a Call) -> Self {
         let vehicle = vehicle(problem);
-        let limits = RouteLimits::of(&vehicle);
+        Ready {
+            call,
+            places: places(problem),
+            distances: distances(problem),
+            limits: RouteLimits::of(&vehicle),
+            vehicle,
+            route: call.route().map_or(vec![], wide),
+            routes: if call.has_plan() { plan.routes() } else { vec![] },
+        }
+    }
+
+    /// Makes the call.
+    pub fn make(&mut self) -> Answer {
+        let Ready { call, places, distances, vehicle, limits, route, routes } = self;
         let depot = vehicle.depot_id();
-        let routes = if call.has_plan() { plan.routes() } else { vec![] };
-        let began = Instant::now();
-        let answer = match call {
+        match call {
             Call::Minimise { limit, tape, clock, .. } => {
                 let mut tape = Tape::new(tape);
                 let clock = Deadline::new(*clock);
-                let routes = minimize_routes(routes, &places, &distances, &vehicle, *limit, &mut tape, &clock);
-                Answer::Minimised { routes: plan.write(&routes), steps: clock.steps(), draws: tape.draws }
+                *routes = minimize_routes(take(routes), places, distances, vehicle, *limit, &mut tape, &clock);
+                Answer::Minimised { routes: routes.len() as u64, steps: clock.steps(), draws: tape.draws }
             }
             Call::Eliminate { .. } => {
-                let routes = eliminate_routes(routes, &places, &distances, &vehicle);
-                Answer::Eliminated { routes: plan.write(&routes) }
+                *routes = eliminate_routes(take(routes), places, distances, vehicle);
+                Answer::Eliminated { routes: routes.len() as u64 }
             }
-            Call::RouteFeasible { route } => {
-                Answer::Feasible(route_feasible(&wide(route), depot, &distances, &places, &limits))
-            }
-            Call::RouteEval { route } => {
-                Answer::Route(route_eval(&wide(route), depot, &distances, &places, &limits).map(|eval| Eval {
+            Call::RouteFeasible { .. } => Answer::Feasible(route_feasible(route, depot, distances, places, limits)),
+            Call::RouteEval { .. } => {
+                Answer::Route(route_eval(route, depot, distances, places, limits).map(|eval| Eval {
                     distance: eval.distance,
                     duration: eval.duration,
                     lateness: eval.lateness,
@@ -60,23 +85,15 @@ impl Side for Original {
                     rest: eval.rest,
                 }))
             }
-            Call::EffectiveCost { route } => {
-                Answer::Value(effective_cost(&wide(route), depot, &distances, &places, &limits))
+            Call::EffectiveCost { .. } => Answer::Value(effective_cost(route, depot, distances, places, limits)),
+            Call::Schedule { rest, .. } => {
+                Answer::Route(RouteEvaluator::schedule(route, depot, distances, places, &rested(*rest)))
             }
-            Call::Schedule { route, rest } => {
-                Answer::Route(RouteEvaluator::schedule(&wide(route), depot, &distances, &places, &rested(*rest)))
-            }
-            Call::RouteDistance { route } => Answer::Value(route_distance(&wide(route), depot, &distances)),
-            Call::LatenessBound => Answer::Value(lateness_bound(&places, &distances)),
-            Call::GainFloor => Answer::Value(gain_floor(&distances)),
-            Call::TimeWindowNew { .. } => unreachable!("answered above"),
-        };
-        self.took = began.elapsed();
-        answer
-    }
-
-    fn took(&self) -> Duration {
-        self.took
+            Call::RouteDistance { .. } => Answer::Value(route_distance(route, depot, distances)),
+            Call::LatenessBound => Answer::Value(lateness_bound(places, distances)),
+            Call::GainFloor => Answer::Value(gain_floor(distances)),
+            Call::TimeWindowNew { .. } => unreachable!("it has no problem"),
+        }
     }
 }
 

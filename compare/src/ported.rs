@@ -2,8 +2,6 @@
 //! included; a call that it refuses must leave every slice as it was. Some calls are first made with a slice of a wrong
 //! length, or with a `given` that has no meaning, which the port must refuse before all else.
 
-use std::time::{Duration, Instant};
-
 use crate::listed::replies;
 use crate::port::{self, Lent, Numbers, BREAK, MAX_DISTANCE, MAX_DURATION};
 use crate::problem::{Answer, Call, Cells, Eval, Plan, Problem, Side};
@@ -12,7 +10,6 @@ use crate::random::Random;
 /// The port, with the random words for what a call may not depend on.
 pub struct Port {
     random: Random,
-    took: Duration,
 }
 
 /// The slices that a call writes into besides the plan: for its answer, and work cells.
@@ -34,7 +31,7 @@ impl Slices {
 
 impl Default for Port {
     fn default() -> Self {
-        Port { random: Random::new(1), took: Duration::ZERO }
+        Port { random: Random::new(1) }
     }
 }
 
@@ -50,9 +47,7 @@ impl Side for Port {
             self.misfits(problem, plan, call, &numbers, &slices);
         }
         let (given, before) = (plan.clone(), slices.clone());
-        let began = Instant::now();
         let number = ask(problem, plan, call, &numbers, &mut slices);
-        self.took = began.elapsed();
         if number == 0 {
             return answer(call, &slices);
         }
@@ -63,10 +58,6 @@ impl Side for Port {
     fn list(&mut self, problem: &Problem, plan: &mut Plan, calls: &[&Call]) -> Option<Vec<(Answer, Plan)>> {
         let numbers = self.numbers(problem);
         Some(replies(problem, plan, calls, &numbers, &mut self.random))
-    }
-
-    fn took(&self) -> Duration {
-        self.took
     }
 }
 
@@ -129,6 +120,33 @@ impl Port {
         if !matches!(call, Call::TimeWindowNew { .. }) {
             refused_with(101, problem, plan, call, &over, slices);
         }
+    }
+}
+
+/// A call with all that it takes in the port's own form.
+pub struct Ready<'a> {
+    call: &'a Call,
+    problem: &'a Problem,
+    numbers: Numbers,
+    slices: Slices,
+    /// The plan, and after `make` the one that the call leaves.
+    pub plan: Plan,
+}
+
+impl<'a> Ready<'a> {
+    pub fn new(problem: &'a Problem, plan: &Plan, call: &'a Call) -> Self {
+        let mut port = Port::default();
+        Ready { call, problem, numbers: port.numbers(problem), slices: port.slices(call), plan: plan.clone() }
+    }
+
+    /// Makes the call: the number that the port returns.
+    pub fn make(&mut self) -> u8 {
+        ask(self.problem, &mut self.plan, self.call, &self.numbers, &mut self.slices)
+    }
+
+    /// The answer of a call that was made and not refused.
+    pub fn answer(&self) -> Answer {
+        answer(self.call, &self.slices)
     }
 }
 

@@ -1,7 +1,6 @@
 //! The data of a call, as document 01 lends it, the calls, their answers, and what a side of the comparison is.
 
 use std::fmt::Write;
-use std::time::Duration;
 
 /// The driver's break.
 #[derive(Clone, Copy, Debug, PartialEq)]
@@ -177,6 +176,18 @@ impl Call {
         KINDS[self.kind()]
     }
 
+    /// The route of a question about one.
+    pub fn route(&self) -> Option<&[u16]> {
+        match self {
+            Call::RouteFeasible { route }
+            | Call::RouteEval { route }
+            | Call::EffectiveCost { route }
+            | Call::Schedule { route, .. }
+            | Call::RouteDistance { route } => Some(route),
+            _ => None,
+        }
+    }
+
     /// Whether the call has a plan, which it then writes.
     pub fn has_plan(&self) -> bool {
         matches!(self, Call::Minimise { .. } | Call::Eliminate { .. })
@@ -263,10 +274,5 @@ pub trait Side {
     /// has no such call.
     fn list(&mut self, _problem: &Problem, _plan: &mut Plan, _calls: &[&Call]) -> Option<Vec<(Answer, Plan)>> {
         None
-    }
-
-    /// How long the last call took, without what the side makes ready for it and reads out of it.
-    fn took(&self) -> Duration {
-        Duration::ZERO
     }
 }

@@ -1,7 +1,6 @@
 //! A run: random calls put to every side, each answer and both plan slices held against the first side's.
 
 use std::panic::{catch_unwind, AssertUnwindSafe};
-use std::time::Duration;
 
 use crate::answers::call_line;
 use crate::claim::broken;
@@ -107,47 +106,6 @@ fn run_list(side: &mut dyn Side, case: &Case, right: &[(Answer, Plan)], seen: &m
         seen.lists_differ += 1;
         if seen.lists_differ <= 5 {
             println!("case {}: {} as a list of {} calls: {said:?}", case.seed, side.name(), calls.len());
-        }
-    }
-}
-
-/// How many calls of each kind two sides have accepted, and how long each side took for them.
-#[derive(Default)]
-pub struct Times {
-    calls: [u64; KINDS.len()],
-    took: [[Duration; 2]; KINDS.len()],
-}
-
-/// The time of two sides for `count` calls of a seed, each call put to one after the other.
-pub fn time(first: &mut dyn Side, second: &mut dyn Side, count: u64, seed: u64) -> Times {
-    let mut times = Times::default();
-    let (mut calls, mut cases) = (0, 0);
-    while calls < count {
-        let case = case(case_seed(seed, cases), MOST_PLACES);
-        let mut plan = case.plan.clone();
-        for asked in case.calls.iter().take((count - calls) as usize) {
-            let kind = asked.call.kind();
-            let mut other = plan.clone();
-            let accepted = first.call(&case.problem, &mut plan, &asked.call).refusal().is_none();
-            second.call(&case.problem, &mut other, &asked.call);
-            if accepted {
-                times.calls[kind] += 1;
-                times.took[kind][0] += first.took();
-                times.took[kind][1] += second.took();
-            }
-            calls += 1;
-        }
-        cases += 1;
-    }
-    times
-}
-
-impl Times {
-    pub fn print(&self) {
-        println!("{:17}{:>9}{:>12}{:>12}", "call", "accepted", "original", "port");
-        for (kind, name) in KINDS.iter().enumerate() {
-            let [first, second] = self.took[kind].map(|took| took.as_secs_f64() * 1e3);
-            println!("{name:17}{:>9}{first:>12.3}{second:>12.3}", self.calls[kind]);
         }
     }
 }

@@ -58,7 +58,10 @@ impl<'a> Tape<'a> {
 impl Rng for Tape<'_> {
     fn word(&mut self) -> u64 {
         let word = self.words[self.at];
-        self.at = (self.at + 1) % self.words.len();
+        self.at += 1;
+        if self.at == self.words.len() {
+            self.at = 0;
+        }
         self.draws += 1;
         word
     }

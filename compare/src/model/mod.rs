@@ -35,14 +35,7 @@ impl Side for Model {
             return Answer::Window(made.then_some((*ready, *due)));
         }
         let mut steps = Steps::new(problem, &mut self.events);
-        let route: Vec<usize> = match call {
-            Call::RouteFeasible { route }
-            | Call::RouteEval { route }
-            | Call::EffectiveCost { route }
-            | Call::Schedule { route, .. }
-            | Call::RouteDistance { route } => route.iter().map(|&stop| stop as usize).collect(),
-            _ => vec![],
-        };
+        let route: Vec<usize> = call.route().unwrap_or(&[]).iter().map(|&stop| stop as usize).collect();
         let stops = route.iter().copied();
         match call {
             Call::Minimise { limit, tape, clock, .. } => {
