@@ -15,7 +15,7 @@ use std::time::{Duration, Instant};
 
 use crate::events::{Event, Events};
 use crate::model::Model;
-use crate::original;
+use crate::original::{self, Original};
 use crate::ported;
 use crate::problem::{Answer, Call, Plan, Side};
 use list::{asked, bench, names, Bench};
@@ -131,8 +131,21 @@ fn line(answer: &Answer, plan: &Plan) -> String {
     format!("{} {:?} {:?}", answer.line(), plan.lengths, plan.stops)
 }
 
+/// Whether every route that a call is given fits and passes the original's check.
+fn begins_well(bench: &Bench) -> bool {
+    bench.plan.routes().iter().all(|route| {
+        let load: i32 = route.iter().map(|&stop| bench.problem.demand[stop]).sum();
+        let call = Call::RouteFeasible { route: route.iter().map(|&stop| stop as u16).collect() };
+        let answer = Original.call(&bench.problem, &mut Plan::of(&[]), &call);
+        load <= bench.problem.vehicle.capacity && matches!(answer, Answer::Feasible(true))
+    })
+}
+
 /// Measures one benchmark: the times of both sides by turns, then the instructions. Or what differs from the model's answer.
 fn measured(bench: Bench, counts: bool) -> Result<Figures, String> {
+    if !begins_well(&bench) {
+        return Err("a route of the first plan is not allowed".to_string());
+    }
     let mut model = Model::default();
     let mut plan = bench.plan.clone();
     let answer = model.call(&bench.problem, &mut plan, &bench.call);
