@@ -1,4 +1,5 @@
 -- What the functions' proofs lean on.
+pub mod EveryLaws
 -- ranks, failures, the kept part
 pub mod EjectLaws
 -- the positions of what is kept

@@ -1,7 +1,7 @@
 -- Laws of specs/Pass on the positions of one kept part, each from the facts that the code has where it needs it. Assumes nothing.
 use Prim.Native.Nat.{ℕ, suc}
 use mathlib.Core.Path.{_≡_, refl, sym, _∙_}
-use mathlib.Core.Bool.{Bool, true, false}
+use mathlib.Core.Bool.{Bool, true, false, not}
 use mathlib.Core.List.{List, []}
 use mathlib.Core.Option.{Option, some}
 use lib.ListN.{length}
@@ -10,7 +10,7 @@ use lib.Ieee.{Float}
 use borrow.Author.Needs.{needs}
 use Rattle.laws.specs.Loops.{loop, loop-same}
 use Rattle.models.specs.declared.vehicle.Vehicle.{Vehicle}
-use Rattle.models.specs.Problem.{Problem, problem, of-demand, depot}
+use Rattle.models.specs.Problem.{DistanceMatrix, Problem, matrix, problem, of-demand, depot}
 use Rattle.local_search.specs.Route.{insertion-cost}
 use Rattle.local_search.specs.Feasible.{has-room}
 use Rattle.local_search.proofs.ReadLaws.{insertion-any, room-any}
@@ -20,7 +20,7 @@ use Rattle.insertion.specs.Pass.{may-pass}
 use Rattle.ejection.specs.declared.Ejection.{Ejection}
 use Rattle.ejection.specs.declared.search.Out.{Out}
 use Rattle.ejection.specs.Eject.{outranks, try-in-kept, try-kept, try-left}
-use Rattle.ejection.specs.Pass.{pass-in-kept, pass-in-kept-room, try-in-kept-untimed}
+use Rattle.ejection.specs.Pass.{none-outranks, none-outranks-stays, pass-in-kept, pass-in-kept-room, try-in-kept-untimed}
 
 -- ---- one position: it does not outrank the best; c may not go in; it may
 
@@ -38,6 +38,11 @@ module _ (p : Problem) (c n k i j : ℕ) (left : List ℕ) (t : Times) (pos : �
     pub position-taken : w ≡ true → some (record { failed = n; cost = x; route = k; first = i; second = j; pos = pos }) ≡ pass-in-kept p c n k i j left t pos best
     unfolding pass-in-kept
     position-taken f = rw (← ex, ← ev, h, ← ew, f)
+
+-- what the code's test says of a position
+pub rank-told : (m : DistanceMatrix) (depot n c : ℕ) (left : List ℕ) (pos : ℕ) (best : Option Ejection) (x : Float) (v : Bool)
+    → x ≡ insertion-cost m depot left pos c → v ≡ outranks n x best → not v ≡ not (outranks n (insertion-cost m depot left pos c) best)
+rank-told m depot n c left pos best x v ex ev = rw (← ex, ← ev)
 
 pub ruleset position-laws = (insertion-any, position-beaten, position-refused, position-taken)
 
@@ -102,4 +107,10 @@ module _ (size : ℕ) (demand : List ℤ) (service ready due penalty : List Floa
         (try-in-kept p c (o .failed) (o .route) (o .first) (o .second) left (held (length left) cells)) best turn
         ∙ sym (rw (← room, h) (positions-read p c (o .failed) (o .route) (o .first) (o .second) left best w cells prepared e))
 
-pub ruleset kept-laws = (kept-full, kept-missed, kept-tried)
+  -- no position ranks first: each leaves the best so far
+  pub kept-beaten : v ≡ true → (b : Bool) → b ≡ none-outranks (matrix size distances []) (vehicle .«depot_id») c (o .failed) left best → b ≡ true → best ≡ left-out
+  unfolding try-left none-outranks insertion-cost
+  kept-beaten h b eb f =
+      sym (rw (← room, h) (none-outranks-stays p c (o .failed) (o .route) (o .first) (o .second) left best (sym eb ∙ f) (times-along p left)))
+
+pub ruleset kept-laws = (kept-full, kept-missed, kept-tried, kept-beaten)

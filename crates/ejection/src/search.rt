@@ -1,7 +1,7 @@
 // The search for the best ejection: over routes, over the stops that leave, over the positions in what is kept.
 ghost use mathlib.Core.Path.{_≡_};
 ghost use mathlib.Core.List.{[]};
-ghost use Prim.Native.Nat.{suc, _+_, _-_, _<_, _≤_};
+ghost use Prim.Native.Nat.{suc, _+_, _-_, _*_, _<_, _≤_};
 ghost use lib.ListN.{length, take, drop};
 ghost use Rattle.laws.specs.All.{All};
 ghost use Rattle.laws.specs.Loops.{loop};
@@ -13,7 +13,7 @@ ghost use Rattle.plan.specs.Plan.{Lent, split};
 ghost use Rattle.quick_test.specs.Prepared.{held};
 ghost use Rattle.ejection.specs.Eject.{chosen, try-left, try-out, try-one, try-two-from, try-two, eject-one, eject-two, eject};
 ghost use Rattle.ejection.specs.Asked.{Counted, Sought};
-ghost use Rattle.ejection.specs.Pass.{pass-in-kept, try-some, eject-some};
+ghost use Rattle.ejection.specs.Pass.{none-outranks, pass-in-kept, try-some, eject-some};
 use crate::Best;
 use crate::Ejection;
 use insertion::may_pass;
@@ -139,7 +139,32 @@ fn try_positions(
     found
 }
 
-// What is kept: the load test once, the departures and latest arrivals once, then the positions.
+// Whether no position of what is kept ranks before the best so far, whatever the tests say of it.
+fn none_outranks(
+    kept: &[u16],
+    failed: u32,
+    c: usize,
+    best: Best,
+    depot: usize,
+    n: usize,
+    distances: &[f64],
+) -> bool
+    requires { ⌜ (n ≤ 256) × (length (now distances) ≡ n * n) ⌝ }
+    requires { ⌜ (depot < n) × (c < n) × Stops n (now kept) ⌝ }
+    ensures { λ r. ⌜ r ≡ none-outranks (matrix n (now (distances .entry)) []) depot c failed (now (kept .entry)) (chosen best) ⌝ }
+{
+    let mut pos = 0;
+    while pos <= kept.len() {
+        let cost = insertion_cost(kept, pos, c, depot, n, distances);
+        if crate::outranks(failed, cost, best) {
+            return false;
+        }
+        pos += 1;
+    }
+    true
+}
+
+// What is kept: the load test once, the departures and latest arrivals once where a position may rank first, then the positions.
 fn try_left(
     cells: &mut [f64],
     left: &[u16],
@@ -164,6 +189,9 @@ fn try_left(
         (now (distances .entry)) (now (times .entry)) vehicle) c (out .failed) (out .route) (out .first) (out .second) (now (left .entry)) (chosen best) ⌝ }
 {
     if has_room(left, c, demand, vehicle) {
+        if none_outranks(left, out.failed, c, best, vehicle.depot_id, n, distances) {
+            return best;
+        }
         if prepare(
             cells,
             left,

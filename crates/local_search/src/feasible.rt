@@ -48,7 +48,7 @@ pub fn has_room(route: &[u16], c: usize, demand: &[i32], vehicle: Vehicle) -> bo
 }
 
 // Whether a route's load is within capacity.
-fn within_capacity(route: &[u16], demand: &[i32], vehicle: Vehicle) -> bool
+pub fn within_capacity(route: &[u16], demand: &[i32], vehicle: Vehicle) -> bool
     requires { ⌜ Demands (length (now demand)) (now demand) × Stops (length (now demand)) (now route) ⌝ }
     ensures { λ r. ⌜ r ≡ fits (of-demand (now (demand .entry)) vehicle) (load (now (demand .entry)) (now (route .entry))) ⌝ }
 {

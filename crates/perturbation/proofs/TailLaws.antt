@@ -7,17 +7,20 @@ use mathlib.Core.Bool.{Bool, true, false, cond, _&&_}
 use mathlib.Core.List.{List, [], _∷_, _++_}
 use lib.ListN.{length, getD, take, drop, set, length-append, length-drop, length-take, length-set}
 use lib.Seq.{paste, take-paste, length-paste, take-take, drop-drop, length-take-le, getD-set-other}
+use lib.IntN.{ℤ}
+use lib.Ieee.{Float}
 use mir.Syntax.{w64}
 use mir.Val.{Fits}
 use borrow.Author.Needs.{needs}
 use Rattle.laws.specs.All.{all-get}
 use Rattle.laws.specs.Lists.{drop-take}
-use Rattle.models.specs.Problem.{Problem, Stops}
+use Rattle.models.specs.declared.vehicle.Vehicle.{Vehicle}
+use Rattle.models.specs.Problem.{Problem, problem, of-demand, Stops}
 use Rattle.plan.specs.Plan.{Plan, Holds, Lent, Has-position, split, route, total, offset, non-empty, exchange-tails}
 use Rattle.plan.specs.Slices.{length-route, route-split, route-within, total-set, position-route, position-within}
 use Rattle.plan.specs.Exchanges.{length-exchange-tails, occurs-exchange-tails, number-exchange-tails, first-exchange-tails, second-exchange-tails}
 use Rattle.plan.proofs.PlanLaws.{position-upto, position-fits, position-length-fits}
-use Rattle.local_search.specs.Feasible.{feasible}
+use Rattle.local_search.specs.Feasible.{load, fits, feasible}
 use Rattle.local_search.specs.Planned.{Planned, planned-stops, planned-as}
 use Rattle.perturbation.specs.Perturb.{try-tails}
 use Rattle.perturbation.specs.Parts.{joined, joined-stands}
@@ -95,6 +98,9 @@ module _ (plan : Plan) (a i b j m : ℕ) (w : List ℕ) (c : m ≡ length (joine
       let z : Stops n (route a x) = all-get a [] (planned-stops n x y) (rw (length-exchange-tails a i b j plan) (f .there)) in
       rw (whole, ← first-exchange-tails a i b j plan d (f .there) (g .there)) z
 
+  pub cells-within : (p : Problem) (v : Bool) → v ≡ fits p (load (p .demand) (take (m - 0) (drop 0 w))) → v ≡ fits p (load (p .demand) (joined a i b j plan))
+  cells-within p v f = f ∙ ap (λ (r : List ℕ). fits p (load (p .demand) r)) whole
+
   pub cells-none : (p : Problem) → m ≡ 0 → false ≡ joined-stands p a i b j plan
   unfolding joined-stands non-empty
   cells-none p h = go (joined a i b j plan) (sym c ∙ h)
@@ -112,6 +118,38 @@ module _ (plan : Plan) (a i b j m : ℕ) (w : List ℕ) (c : m ≡ length (joine
       go (x ∷ r) k = refl
 
 -- ---- both routes as they would be, and the move
+
+heavy-first : (x y z t : Bool) → y ≡ false → ((x && (y && z)) && t) ≡ false
+heavy-first true y z t e = rw e
+heavy-first false y z t e = refl
+
+and-false : (x : Bool) → (x && false) ≡ false
+and-false true = refl
+and-false false = refl
+
+and-true : (x : Bool) → (x && true) ≡ x
+and-true true = refl
+and-true false = refl
+
+-- the first is too heavy; the second does not stand; the first decides
+module _ (size : ℕ) (demand : List ℤ) (service ready due penalty : List Float) (flags : List ℕ) (distances times : List Float) (vehicle : Vehicle) (a i b j : ℕ) (plan : Plan)
+    (v : Bool) (ev : v ≡ fits (of-demand demand vehicle) (load demand (joined a i b j plan))) where
+  abbrev whole-problem : Problem
+  whole-problem = problem size demand service ready due penalty flags distances times vehicle
+
+  abbrev both-stand : Bool
+  both-stand = joined-stands whole-problem a i b j plan && joined-stands whole-problem b j a i plan
+
+  pub joined-heavy : v ≡ false → false ≡ both-stand
+  unfolding joined-stands feasible
+  joined-heavy f = sym (heavy-first (non-empty (joined a i b j plan)) _ _ _ (sym ev ∙ f))
+
+  module _ (w : Bool) (ew : w ≡ joined-stands whole-problem b j a i plan) where
+    pub joined-falls : w ≡ false → false ≡ both-stand
+    joined-falls f = sym (ap (λ (t : Bool). joined-stands whole-problem a i b j plan && t) (sym ew ∙ f) ∙ and-false (joined-stands whole-problem a i b j plan))
+
+    pub joined-decides : w ≡ true → (x : Bool) → x ≡ joined-stands whole-problem a i b j plan → x ≡ both-stand
+    joined-decides f x ex = ex ∙ sym (ap (λ (t : Bool). joined-stands whole-problem a i b j plan && t) (sym ew ∙ f) ∙ and-true (joined-stands whole-problem a i b j plan))
 
 same-tests : (a b c d : Bool) {A : Type 0} (x y : A) → cond (a && c) (cond (b && d) x y) y ≡ cond ((a && b) && (c && d)) x y
 same-tests true true c d x y = go c

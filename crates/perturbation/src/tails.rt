@@ -4,14 +4,16 @@ ghost use mathlib.Core.Bool.{_&&_};
 ghost use Prim.Native.Nat.{_≤_};
 ghost use lib.ListN.{length, take};
 ghost use Rattle.models.specs.RouteLimits.{limits-of};
-ghost use Rattle.models.specs.Problem.{problem, Admitted};
+ghost use Rattle.models.specs.Problem.{problem, of-demand, Admitted, Demands};
 ghost use Rattle.evaluation.specs.Check.{route-checks-needed};
 ghost use Rattle.plan.specs.Plan.{Holds, Lent, Has-position, split, total};
+ghost use Rattle.local_search.specs.Feasible.{load, fits};
 ghost use Rattle.local_search.specs.Planned.{Planned};
 ghost use Rattle.perturbation.specs.Perturb.{try-tails};
 ghost use Rattle.perturbation.specs.Parts.{joined, joined-stands};
 use crate::check::part_feasible;
 use cells::copy_part;
+use local_search::feasible::within_capacity;
 use models::vehicle::Vehicle;
 use plan::exchange_tails;
 use plan::offset;
@@ -87,7 +89,28 @@ fn joined_stands(
     )
 }
 
-// Whether both routes stand after the tail of route a from i and the tail of route b from j are exchanged.
+// Whether the load of the front of route a up to i with the tail of route b from j behind it is within capacity. It is put into the work cells.
+fn joined_within(
+    work: &mut [u16],
+    lengths: &[u16],
+    stops: &[u16],
+    a: usize,
+    i: usize,
+    b: usize,
+    j: usize,
+    vehicle: Vehicle,
+    demand: &[i32],
+) -> bool
+    requires { ⌜ Demands (length (now demand)) (now demand) ⌝ }
+    requires { ⌜ (a ≡ b → ⊥) × Has-position (split (now lengths) (now stops)) a i × Has-position (split (now lengths) (now stops)) b j × (length (now stops) ≤ length (now work)) × Lent (now lengths) (now stops) × Planned (length (now demand)) (split (now lengths) (now stops)) ⌝ }
+    ensures { λ r. ⌜ r ≡ fits (of-demand (now (demand .entry)) vehicle) (load (now (demand .entry)) (joined a i b j (split (now (lengths .entry)) (now (stops .entry))))) ⌝ }
+{
+    let m = join(work, lengths, stops, a, i, b, j);
+    within_capacity(&work[0..m], demand, vehicle)
+}
+
+// Whether both routes stand after the tail of route a from i and the tail of route b from j are exchanged: a check is made only where both loads are
+// within capacity.
 fn both_joined(
     work: &mut [u16],
     lengths: &[u16],
@@ -115,27 +138,8 @@ fn both_joined(
         && joined-stands (problem n (now (demand .entry)) (now (service .entry)) (now (ready .entry)) (now (due .entry)) (now (penalty .entry)) (now (flags .entry))
         (now (distances .entry)) (now (times .entry)) vehicle) b j a i (split (now (lengths .entry)) (now (stops .entry)))) ⌝ }
 {
-    if joined_stands(
-        work,
-        lengths,
-        stops,
-        a,
-        i,
-        b,
-        j,
-        needed,
-        vehicle,
-        demand,
-        n,
-        distances,
-        times,
-        service,
-        ready,
-        due,
-        penalty,
-        flags,
-    ) {
-        return joined_stands(
+    if joined_within(work, lengths, stops, a, i, b, j, vehicle, demand) {
+        if joined_stands(
             work,
             lengths,
             stops,
@@ -154,7 +158,29 @@ fn both_joined(
             due,
             penalty,
             flags,
-        );
+        ) {
+            return joined_stands(
+                work,
+                lengths,
+                stops,
+                a,
+                i,
+                b,
+                j,
+                needed,
+                vehicle,
+                demand,
+                n,
+                distances,
+                times,
+                service,
+                ready,
+                due,
+                penalty,
+                flags,
+            );
+        }
+        return false; // b does not stand
     }
     false
 }

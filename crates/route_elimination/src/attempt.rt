@@ -6,9 +6,10 @@ ghost use Prim.Native.Nat.{_+_, _-_, _<_, _≤_};
 ghost use lib.ListN.{length, getD, take, drop};
 ghost use Rattle.floats.specs.Binary64.{_⊕_};
 ghost use Rattle.models.specs.Vehicle.{fixed-cost-in-distance};
-ghost use Rattle.models.specs.Problem.{problem};
+ghost use Rattle.models.specs.Problem.{matrix, problem};
 ghost use Rattle.plan.specs.Plan.{Lent, split, route, total};
 ghost use Rattle.local_search.specs.Options.{then-some};
+ghost use Rattle.local_search.specs.Route.{gain-floor};
 ghost use Rattle.reinsertion.specs.Candidates.{worth};
 ghost use Rattle.route_elimination.specs.Eliminate.{move-all, without-route};
 ghost use Rattle.route_elimination.specs.Largest.{in-order};
@@ -18,7 +19,6 @@ use crate::moves::Sum;
 use crate::moves::move_all;
 use cells::copy_part;
 use floats::is_finite;
-use local_search::route::gain_floor;
 use models::vehicle::Vehicle;
 use plan::erase_route;
 use plan::offset;
@@ -124,12 +124,13 @@ fn move_into(
     )
 }
 
-// Route r goes and its stops find other places, where that gains: else the slices hold no plan.
+// Route r goes and its stops find other places, where that gains more than `floor`: else the slices hold no plan.
 fn empty_route(
     lengths: &mut [u16],
     stops: &mut [u16],
     r: usize,
     saved: f64,
+    floor: f64,
     soft: bool,
     needed: bool,
     vehicle: Vehicle,
@@ -143,7 +144,7 @@ fn empty_route(
     penalty: &[f64],
     flags: &[u8],
 ) -> bool
-    requires { ⌜ Attempted (problem n (now demand) (now service) (now ready) (now due) (now penalty) (now flags) (now distances) (now times) vehicle) soft needed (now lengths) (now stops) r ⌝ }
+    requires { ⌜ Attempted (problem n (now demand) (now service) (now ready) (now due) (now penalty) (now flags) (now distances) (now times) vehicle) soft needed (now lengths) (now stops) r × (floor ≡ gain-floor (matrix n (now distances) (now times))) ⌝ }
     ensures plan { λ b. ⌜ then-some b (split (fewer (now (lengths .entry)) (now (lengths .exit))) (now (stops .exit))) ≡ emptied (problem n (now (demand .entry)) (now (service .entry)) (now (ready .entry)) (now (due .entry)) (now (penalty .entry)) (now (flags .entry))
         (now (distances .entry)) (now (times .entry)) vehicle) saved (split (now (lengths .entry)) (now (stops .entry))) r ⌝ }
     ensures kept { λ b. ⌜ (b ≡ true → Accepted (now (lengths .entry)) (now (lengths .exit))) ⌝ }
@@ -174,7 +175,7 @@ fn empty_route(
     let Sum::At(added) = sum else {
         return false;
     };
-    added < saved - gain_floor(distances)
+    added < saved - floor
 }
 
 // Route r goes and its stops find other places, where that gains: else both slices are put back from the work cells.
@@ -184,6 +185,7 @@ fn try_without(
     work: &mut [u16],
     r: usize,
     saved: f64,
+    floor: f64,
     soft: bool,
     needed: bool,
     vehicle: Vehicle,
@@ -198,7 +200,7 @@ fn try_without(
     flags: &[u8],
 ) -> bool
     requires { ⌜ Attempted (problem n (now demand) (now service) (now ready) (now due) (now penalty) (now flags) (now distances) (now times) vehicle) soft needed (now lengths) (now stops) r
-        × (length (now lengths) + length (now stops) ≤ length (now work)) ⌝ }
+        × (length (now lengths) + length (now stops) ≤ length (now work)) × (floor ≡ gain-floor (matrix n (now distances) (now times))) ⌝ }
     ensures plan { λ b. ⌜ then-some b (split (fewer (now (lengths .entry)) (now (lengths .exit))) (now (stops .exit))) ≡ emptied (problem n (now (demand .entry)) (now (service .entry)) (now (ready .entry)) (now (due .entry)) (now (penalty .entry)) (now (flags .entry))
         (now (distances .entry)) (now (times .entry)) vehicle) saved (split (now (lengths .entry)) (now (stops .entry))) r ⌝ }
     ensures slices { λ b. ⌜ Left b (now (lengths .entry)) (now (stops .entry)) (now (lengths .exit)) (now (stops .exit)) ⌝ }
@@ -209,6 +211,7 @@ fn try_without(
         stops,
         r,
         saved,
+        floor,
         soft,
         needed,
         vehicle,
@@ -236,6 +239,7 @@ pub fn without_route(
     stops: &mut [u16],
     work: &mut [u16],
     r: usize,
+    floor: f64,
     soft: bool,
     needed: bool,
     vehicle: Vehicle,
@@ -250,7 +254,7 @@ pub fn without_route(
     flags: &[u8],
 ) -> bool
     requires { ⌜ Attempted (problem n (now demand) (now service) (now ready) (now due) (now penalty) (now flags) (now distances) (now times) vehicle) soft needed (now lengths) (now stops) r
-        × (length (now lengths) + length (now stops) ≤ length (now work)) ⌝ }
+        × (length (now lengths) + length (now stops) ≤ length (now work)) × (floor ≡ gain-floor (matrix n (now distances) (now times))) ⌝ }
     ensures plan { λ b. ⌜ then-some b (split (fewer (now (lengths .entry)) (now (lengths .exit))) (now (stops .exit))) ≡ without-route (problem n (now (demand .entry)) (now (service .entry)) (now (ready .entry)) (now (due .entry)) (now (penalty .entry)) (now (flags .entry))
         (now (distances .entry)) (now (times .entry)) vehicle) (split (now (lengths .entry)) (now (stops .entry))) r ⌝ }
     ensures slices { λ b. ⌜ Left b (now (lengths .entry)) (now (stops .entry)) (now (lengths .exit)) (now (stops .exit)) ⌝ }
@@ -279,6 +283,7 @@ pub fn without_route(
             work,
             r,
             saved,
+            floor,
             soft,
             needed,
             vehicle,

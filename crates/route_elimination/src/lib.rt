@@ -10,6 +10,7 @@ use crate::round::try_next;
 use evaluation::check::has_soft_windows;
 use local_search::feasible::constrained;
 use local_search::rounds::Next;
+use local_search::route::gain_floor;
 use models::vehicle::Vehicle;
 use plan::drop_empty;
 use plan::order::Pick;
@@ -42,6 +43,7 @@ pub fn eliminate_routes(
 {
     let soft = has_soft_windows(flags);
     let needed = constrained(flags, vehicle);
+    let floor = gain_floor(distances);
     'search: loop {
         let count = drop_empty(lengths);
         let mut last = Pick::Nothing;
@@ -51,6 +53,7 @@ pub fn eliminate_routes(
                 stops,
                 work,
                 last,
+                floor,
                 soft,
                 needed,
                 vehicle,

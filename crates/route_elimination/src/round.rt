@@ -1,9 +1,10 @@
 // One attempt after the other in a round: the routes by length, stable, until one is accepted or none is left.
 ghost use mathlib.Core.Path.{_≡_};
-ghost use Rattle.models.specs.Problem.{problem};
+ghost use Rattle.models.specs.Problem.{matrix, problem};
 ghost use Rattle.plan.specs.Plan.{split};
 ghost use Rattle.plan.specs.Order.{following};
 ghost use Rattle.local_search.specs.Feasible.{constrained};
+ghost use Rattle.local_search.specs.Route.{gain-floor};
 ghost use Rattle.local_search.specs.Rounds.{try-each};
 ghost use Rattle.local_search.specs.Search.{but-last, tried-next, Next-leaves, uncounted};
 ghost use Rattle.reinsertion.specs.Candidates.{soft as soft-in};
@@ -22,6 +23,7 @@ pub fn try_next(
     stops: &mut [u16],
     work: &mut [u16],
     last: Pick,
+    floor: f64,
     soft: bool,
     needed: bool,
     vehicle: Vehicle,
@@ -37,7 +39,8 @@ pub fn try_next(
 ) -> Next
     requires { ⌜ Eliminating (problem n (now demand) (now service) (now ready) (now due) (now penalty) (now flags) (now distances) (now times) vehicle) (now lengths) (now stops) (now work) ⌝ }
     requires { ⌜ (soft ≡ soft-in (problem n (now demand) (now service) (now ready) (now due) (now penalty) (now flags) (now distances) (now times) vehicle))
-        × (needed ≡ constrained (problem n (now demand) (now service) (now ready) (now due) (now penalty) (now flags) (now distances) (now times) vehicle)) ⌝ }
+        × (needed ≡ constrained (problem n (now demand) (now service) (now ready) (now due) (now penalty) (now flags) (now distances) (now times) vehicle))
+        × (floor ≡ gain-floor (matrix n (now distances) (now times))) ⌝ }
     ensures round { λ x. ⌜ tried-next (attempt (problem n (now (demand .entry)) (now (service .entry)) (now (ready .entry)) (now (due .entry)) (now (penalty .entry)) (now (flags .entry))
         (now (distances .entry)) (now (times .entry)) vehicle)) (split (now (lengths .entry)) (now (stops .entry))) (now (lengths .entry)) uncounted
         x (split (but-last (now (lengths .exit))) (now (stops .exit))) ≡ try-each (attempt (problem n (now (demand .entry)) (now (service .entry)) (now (ready .entry)) (now (due .entry)) (now (penalty .entry)) (now (flags .entry))
@@ -54,6 +57,7 @@ pub fn try_next(
         stops,
         work,
         r,
+        floor,
         soft,
         needed,
         vehicle,

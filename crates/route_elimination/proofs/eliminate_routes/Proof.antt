@@ -15,21 +15,21 @@ use Rattle.route_elimination.proofs.eliminate_routes.Statement.{stateme
 use Rattle.route_elimination.proofs.eliminate_routes.Tie as tie
 
 abbrev Inv-loop : tie.InvT-loop
-Inv-loop lengths₀ stops₀ work₀ vehicle demand n distances times service ready due penalty flags soft needed count last₀ lengths stops work last =
+Inv-loop lengths₀ stops₀ work₀ vehicle demand n distances times service ready due penalty flags soft needed floor count last₀ lengths stops work last =
     Trying (attempt (problem n demand service ready due penalty flags distances times vehicle)) 0 n lengths₀ stops₀ uncounted count lengths stops uncounted last
     × (length work ≡ length work₀)
 
 abbrev μ-loop : tie.MeasureT-loop
-μ-loop lengths₀ stops₀ work₀ vehicle demand n distances times service ready due penalty flags soft needed count last₀ lengths stops work last =
+μ-loop lengths₀ stops₀ work₀ vehicle demand n distances times service ready due penalty flags soft needed floor count last₀ lengths stops work last =
     length (following (take count lengths) last)
 
 abbrev Inv-search : tie.InvT-search
-Inv-search lengths₀ stops₀ work₀ vehicle demand n distances times service ready due penalty flags soft needed lengths stops work =
+Inv-search lengths₀ stops₀ work₀ vehicle demand n distances times service ready due penalty flags soft needed floor lengths stops work =
     Rounding (attempt (problem n demand service ready due penalty flags distances times vehicle)) 0 n lengths₀ stops₀ lengths stops uncounted
     × (length work ≡ length work₀)
 
 abbrev μ-search : tie.MeasureT-search
-μ-search lengths₀ stops₀ work₀ vehicle demand n distances times service ready due penalty flags soft needed lengths stops work =
+μ-search lengths₀ stops₀ work₀ vehicle demand n distances times service ready due penalty flags soft needed floor lengths stops work =
     length (drop-zero lengths)
 
 has-soft-windows-requires : tie.Need-has-soft-windows-requires Inv-loop μ-loop Inv-search μ-search
@@ -38,9 +38,12 @@ has-soft-windows-requires c κs = search needs
 constrained-requires : tie.Need-constrained-requires Inv-loop μ-loop Inv-search μ-search
 constrained-requires c κs = search needs
 
+gain-floor-requires : tie.Need-gain-floor-requires Inv-loop μ-loop Inv-search μ-search
+gain-floor-requires c κs = search needs
+
 search-holds : tie.Need-search-holds Inv-loop μ-loop Inv-search μ-search
 search-holds c =
-    let q = c .before .before .before .before .before .before .before .before .before .before .before .before .pre in
+    let q = c .before .before .before .before .before .before .before .before .before .before .before .before .before .pre in
     (rounding-start _ _ _ _ _ (q .whole) (q .routes-few) (q .planned), refl)
 
 drop-empty-requires : tie.Need-drop-empty-requires Inv-loop μ-loop Inv-search μ-search
@@ -48,7 +51,7 @@ drop-empty-requires c κs = search needs
 
 loop-holds : tie.Need-loop-holds Inv-loop μ-loop Inv-search μ-search
 loop-holds c =
-    let q = c .before .before .before .before .before .before .before .before .before .before .before .before .before .before .before .before .before .pre in
+    let q = c .before .before .before .before .before .before .before .before .before .before .before .before .before .before .before .before .before .before .pre in
     let b = c .before .before .drop-empty in
     (trying-start _ _ _ (c .before .before .before .before .search .inv .0) (q .few) _ _ (b .ensures .0) (b .ensures .1) (q .routes-few), refl)
 
@@ -61,9 +64,9 @@ slice-aggregate-try-next c = sym (front-length _ _ _ (c .before .loop .inv .0))
 
 try-next-requires : tie.Need-try-next-requires Inv-loop μ-loop Inv-search μ-search
 try-next-requires c κs =
-    let q = c .before .before .before .before .before .before .before .before .before .before .before .before .before .before .before .before .before .before .before .before .before .pre in
+    let q = c .before .before .before .before .before .before .before .before .before .before .before .before .before .before .before .before .before .before .before .before .before .before .pre in
     let g = c .before .before .before .loop .inv in
-    (trying-eliminating _ (g .0) _ (q .admitted) (omega (arith, q .work-room, c .before .before .before .before .before .before .before .before .search .inv .1, g .1)), (c .before .before .before .before .before .before .before .before .before .before .has-soft-windows .ensures, c .before .before .before .before .before .before .before .before .before .constrained .ensures))
+    (trying-eliminating _ (g .0) _ (q .admitted) (omega (arith, q .work-room, c .before .before .before .before .before .before .before .before .search .inv .1, g .1)), (c .before .before .before .before .before .before .before .before .before .before .before .has-soft-windows .ensures, c .before .before .before .before .before .before .before .before .before .before .constrained .ensures, c .before .before .before .before .before .before .before .before .before .gain-floor .ensures))
 
 enum-told : tie.Need-enum-told Inv-loop μ-loop Inv-search μ-search
 enum-told c = search needs
@@ -88,7 +91,7 @@ returns c =
     let b = c .before .before .before .before .before .before .before .before .before .before .before .before .before .before .before .drop-empty in
     let t = c .before .before .before .before .before .before .before .before .try-next in
     rounds-answer _ _ _ _ _ _
-    (at-end _ _ _ (c .before .before .before .before .before .before .before .before .before .before .before .before .loop .inv .0) _ _ _ (t .ensures .0) (t .ensures .1) (attempt-reduces _) _ _ (round-same _ _ _ o (c .before .before .before .before .before .before .before .before .before .before .before .before .before .before .before .before .before .before .before .before .before .before .before .before .before .before .before .before .before .before .pre .few) _ _ (b .ensures .0) (b .ensures .1)) (sym (b .kept .0 ∙ o .long)) (c .enum-told .given .1))
+    (at-end _ _ _ (c .before .before .before .before .before .before .before .before .before .before .before .before .loop .inv .0) _ _ _ (t .ensures .0) (t .ensures .1) (attempt-reduces _) _ _ (round-same _ _ _ o (c .before .before .before .before .before .before .before .before .before .before .before .before .before .before .before .before .before .before .before .before .before .before .before .before .before .before .before .before .before .before .before .pre .few) _ _ (b .ensures .0) (b .ensures .1)) (sym (b .kept .0 ∙ o .long)) (c .enum-told .given .1))
 
 enum-known-next : tie.Need-enum-known-next Inv-loop μ-loop Inv-search μ-search
 enum-known-next c = search needs
@@ -118,7 +121,7 @@ search-again c =
     let b = c .before .before .before .before .before .before .before .before .before .before .before .before .before .before .before .drop-empty in
     let g = c .before .before .before .before .before .before .before .before .before .before .before .before .loop .inv in
     let t = c .before .before .before .before .before .before .before .before .try-next in (
-      after-gone _ (g .0) _ _ _ (t .ensures .0) (t .ensures .1) _ (t .kept .0) (c .enum-told2 .given .1) _ _ (b .kept .0 ∙ o .0 .long) (o .0 .stops-long) (t .kept .1 .0) (round-same _ _ _ (o .0) (c .before .before .before .before .before .before .before .before .before .before .before .before .before .before .before .before .before .before .before .before .before .before .before .before .before .before .before .before .before .before .pre .few) _ _ (b .ensures .0) (b .ensures .1)),
+      after-gone _ (g .0) _ _ _ (t .ensures .0) (t .ensures .1) _ (t .kept .0) (c .enum-told2 .given .1) _ _ (b .kept .0 ∙ o .0 .long) (o .0 .stops-long) (t .kept .1 .0) (round-same _ _ _ (o .0) (c .before .before .before .before .before .before .before .before .before .before .before .before .before .before .before .before .before .before .before .before .before .before .before .before .before .before .before .before .before .before .before .pre .few) _ _ (b .ensures .0) (b .ensures .1)),
       t .kept .1 .1 .0 ∙ g .1 ∙ o .1,
     )
 
@@ -132,6 +135,7 @@ eliminate-routes-spec =
     μ-search
     has-soft-windows-requires
     constrained-requires
+    gain-floor-requires
     search-holds
     drop-empty-requires
     loop-holds

@@ -19,7 +19,7 @@ slice-aggregate-keep-route c = search needs
 
 keep-route-requires : tie.Need-keep-route-requires
 keep-route-requires c κs =
-    let p = c .before .before .before .before .before .before .before .before .before .before .before .before .before .pre in
+    let p = c .before .before .before .before .before .before .before .before .before .before .before .before .before .pre .0 in
     (p .lent, p .there, attempt-count _ _ _ _ _ _ p)
 
 erase-route-requires : tie.Need-erase-route-requires
@@ -30,7 +30,7 @@ slice-aggregate-move-into c = search needs
 
 move-into-requires : tie.Need-move-into-requires
 move-into-requires c κs =
-    let p = c .before .before .before .before .before .before .before .before .before .before .before .before .before .before .before .before .before .before .before .before .before .before .before .before .before .pre in
+    let p = c .before .before .before .before .before .before .before .before .before .before .before .before .before .before .before .before .before .before .before .before .before .before .before .before .before .pre .0 in
     let k = c .before .before .before .before .before .before .before .before .before .before .before .keep-route in
     let e = c .before .before .before .before .before .before .before .erase-route in (
       erased-waiting _ _ _ _ _ _ p (k .last .0) (k .ensures) (e .last .0) (e .last .1 .0) (e .ensures .0) (e .ensures .1) (omega (arith, attempt-count _ _ _ _ _ _ p, k .kept .0)) (e .kept .1 .0),
@@ -51,14 +51,11 @@ same-length-2 c = search needs
 
 returns : tie.Need-returns
 returns c =
-    let p = c .before .before .before .before .before .before .before .before .before .before .before .before .before .before .before .before .before .before .before .before .before .before .before .before .before .before .before .before .before .before .before .before .before .pre in
+    let p = c .before .before .before .before .before .before .before .before .before .before .before .before .before .before .before .before .before .before .before .before .before .before .before .before .before .before .before .before .before .before .before .before .before .pre .0 in
     let k = c .before .before .before .before .before .before .before .before .before .before .before .before .before .before .before .before .before .before .before .keep-route in
     let e = c .before .before .before .before .before .before .before .before .before .before .before .before .before .before .before .erase-route in
     let m = c .before .before .before .before .before .before .before .move-into in
     (empty-stuck _ _ _ _ _ _ p (k .last .0) (k .ensures) (e .last .0) (e .last .1 .0) (e .ensures .0) (e .ensures .1) _ (m .result) (m .last .0) (m .last .1 .0) (m .ensures .0) (c .enum-told .given .1), not-accepted)
-
-gain-floor-requires : tie.Need-gain-floor-requires
-gain-floor-requires c κs = search needs
 
 same-length-3 : tie.Need-same-length-3
 same-length-3 c = search needs
@@ -68,12 +65,13 @@ same-length-4 c = search needs
 
 returns-2 : tie.Need-returns-2
 returns-2 c =
-    let p = c .before .before .before .before .before .before .before .before .before .before .before .before .before .before .before .before .before .before .before .before .before .before .before .before .before .before .before .before .before .before .before .before .before .before .before .pre in
-    let k = c .before .before .before .before .before .before .before .before .before .before .before .before .before .before .before .before .before .before .before .before .before .keep-route in
-    let e = c .before .before .before .before .before .before .before .before .before .before .before .before .before .before .before .before .before .erase-route in
-    let m = c .before .before .before .before .before .before .before .before .before .move-into in
-    let q = c .before .before .sum .given .1 in (
-      empty-gained _ _ _ _ _ _ p (k .last .0) (k .ensures) (e .last .0) (e .last .1 .0) (e .ensures .0) (e .ensures .1) _ (m .result) (m .last .0) (m .last .1 .0) (m .ensures .0) _ q _ (c .gain-floor .ensures),
+    let g = c .before .before .before .before .before .before .before .before .before .before .before .before .before .before .before .before .before .before .before .before .before .before .before .before .before .before .before .before .before .before .before .before .before .before .pre in
+    let p = g .0 in
+    let k = c .before .before .before .before .before .before .before .before .before .before .before .before .before .before .before .before .before .before .before .before .keep-route in
+    let e = c .before .before .before .before .before .before .before .before .before .before .before .before .before .before .before .before .erase-route in
+    let m = c .before .before .before .before .before .before .before .before .move-into in
+    let q = c .before .sum .given .1 in (
+      empty-gained _ _ _ _ _ _ p (k .last .0) (k .ensures) (e .last .0) (e .last .1 .0) (e .ensures .0) (e .ensures .1) _ (m .result) (m .last .0) (m .last .1 .0) (m .ensures .0) _ q _ (g .1),
       λ _. empty-accepted _ _ _ _ _ _ p (k .last .0) (k .ensures) (e .last .0) (e .last .1 .0) (e .ensures .0) (e .ensures .1) _ (m .result) (m .last .0) (m .last .1 .0) (m .ensures .0) _ q (m .ensures .1 .0) (m .ensures .1 .1),
     )
 
@@ -94,7 +92,6 @@ empty-route-spec =
     same-length
     same-length-2
     returns
-    gain-floor-requires
     same-length-3
     same-length-4
     returns-2)

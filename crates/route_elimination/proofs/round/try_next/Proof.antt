@@ -26,7 +26,7 @@ returns c =
 without-route-requires : tie.Need-without-route-requires
 without-route-requires c κs =
     let q = c .before .before .before .before .before .before .before .before .before .before .before .before .before .before .before .before .before .before .pre in
-    (next-attempted _ _ _ (c .before .before .before .before .before .before .next-pick .ensures) _ _ (c .before .before .before .before .pick .given .1) _ _ _ (q .0) _ _ (q .1 .0) (q .1 .1), omega (arith, q .0 .routes-few, q .0 .few, q .0 .work-room))
+    (next-attempted _ _ _ (c .before .before .before .before .before .before .next-pick .ensures) _ _ (c .before .before .before .before .pick .given .1) _ _ _ (q .0) _ _ (q .1 .0) (q .1 .1), omega (arith, q .0 .routes-few, q .0 .few, q .0 .work-room), q .1 .2)
 
 same-length-2 : tie.Need-same-length-2
 same-length-2 c = search needs
