@@ -3,16 +3,17 @@ ghost use mathlib.Core.Path.{_≡_};
 ghost use mathlib.Core.List.{[], _∷_};
 ghost use lib.ListN.{length};
 ghost use Rattle.planner.specs.Calls.{answered};
-ghost use Rattle.planner.specs.Told.{checked-told, evaluated-told, number-told, replied-told};
+ghost use Rattle.planner.specs.Told.{replied-told};
+ghost use Rattle.planner_questions.specs.Told.{checked-told, evaluated-told, number-told};
 ghost use Rattle.cobrwydd.specs.Said.{values, says, misfit, put, checked-values, number-values, evaluated, eval-values, window-values, reduction-values};
 use evaluation::eval::Eval;
 use evaluation::eval::RouteEval;
 use evaluation::schedule::Taken;
 use models::customer::Window;
 use planner::calls::Replied;
-use planner::questions::Checked;
-use planner::questions::Evaluated;
-use planner::questions::Number;
+use planner_questions::Checked;
+use planner_questions::Evaluated;
+use planner_questions::Number;
 
 // 100 where a slice for the answer has not its length, 101 where `given` is over 7, else 0.
 pub fn misfit(floats: usize, asked: usize, numbers: usize, wanted: usize, given: u8) -> u8

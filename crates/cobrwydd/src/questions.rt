@@ -14,7 +14,6 @@ use crate::answers::put_number;
 use crate::answers::put_window;
 use crate::vehicle::vehicle_of;
 use models::vehicle::VehicleBreak;
-use planner::questions;
 
 // Whether a route passes the check: found[0].
 #[no_mangle]
@@ -60,7 +59,7 @@ pub extern "C" fn cobrwydd_route_feasible(
         latest,
         duration,
     );
-    let answer = questions::route_feasible(
+    let answer = planner_questions::route_feasible(
         route,
         n,
         demand,
@@ -121,7 +120,7 @@ pub extern "C" fn cobrwydd_route_eval(
         latest,
         duration,
     );
-    let answer = questions::route_eval(
+    let answer = planner_questions::route_eval(
         route,
         n,
         demand,
@@ -181,7 +180,7 @@ pub extern "C" fn cobrwydd_effective_cost(
         latest,
         duration,
     );
-    let answer = questions::effective_cost(
+    let answer = planner_questions::effective_cost(
         route,
         n,
         demand,
@@ -246,7 +245,7 @@ pub extern "C" fn cobrwydd_schedule(
         duration,
     );
     let rest = VehicleBreak::new(break_earliest, break_latest, break_duration);
-    let answer = questions::schedule(
+    let answer = planner_questions::schedule(
         route,
         rest,
         n,
@@ -307,7 +306,7 @@ pub extern "C" fn cobrwydd_route_distance(
         latest,
         duration,
     );
-    let answer = questions::route_distance(
+    let answer = planner_questions::route_distance(
         route,
         n,
         demand,
@@ -366,7 +365,7 @@ pub extern "C" fn cobrwydd_lateness_bound(
         latest,
         duration,
     );
-    let answer = questions::lateness_bound(
+    let answer = planner_questions::lateness_bound(
         n,
         demand,
         service,
@@ -424,7 +423,7 @@ pub extern "C" fn cobrwydd_gain_floor(
         latest,
         duration,
     );
-    let answer = questions::gain_floor(
+    let answer = planner_questions::gain_floor(
         n,
         demand,
         service,
@@ -453,6 +452,6 @@ pub extern "C" fn cobrwydd_time_window_new(
     if fault != 0 {
         return fault;
     }
-    let window = questions::time_window_new(ready, due);
+    let window = planner_questions::time_window_new(ready, due);
     put_window(out, found, window)
 }

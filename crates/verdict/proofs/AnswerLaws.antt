@@ -21,14 +21,15 @@ use Rattle.evaluation.specs.declared.schedule.Taken.the-variants.{No, At}
 use Rattle.local_search.specs.declared.rounds.Reduction.{Reduction}
 use Rattle.planner.specs.declared.calls.Replied.{Replied}
 use Rattle.planner.specs.declared.calls.Replied.the-variants.{Refused as NotReplied, Answered as RepliedAs}
-use Rattle.planner.specs.declared.questions.Checked.{Checked}
-use Rattle.planner.specs.declared.questions.Checked.the-variants.{Refused as NotChecked, Answered as CheckedAs}
-use Rattle.planner.specs.declared.questions.Evaluated.{Evaluated}
-use Rattle.planner.specs.declared.questions.Evaluated.the-variants.{Refused as NotEvaluated, Answered as EvaluatedAs}
-use Rattle.planner.specs.declared.questions.Number.{Number}
-use Rattle.planner.specs.declared.questions.Number.the-variants.{Refused as NoNumber, Answered as NumberAs}
+use Rattle.planner_questions.specs.declared.Checked.{Checked}
+use Rattle.planner_questions.specs.declared.Checked.the-variants.{Refused as NotChecked, Answered as CheckedAs}
+use Rattle.planner_questions.specs.declared.Evaluated.{Evaluated}
+use Rattle.planner_questions.specs.declared.Evaluated.the-variants.{Refused as NotEvaluated, Answered as EvaluatedAs}
+use Rattle.planner_questions.specs.declared.Number.{Number}
+use Rattle.planner_questions.specs.declared.Number.the-variants.{Refused as NoNumber, Answered as NumberAs}
 use Rattle.planner.specs.Calls.{Answer}
-use Rattle.planner.specs.Told.{checked-told, evaluated-told, number-told, replied-told}
+use Rattle.planner.specs.Told.{replied-told}
+use Rattle.planner_questions.specs.Told.{checked-told, evaluated-told, number-told}
 use Rattle.verdict.specs.declared.answers.Stored.{Stored}
 use Rattle.verdict.specs.Answers.{stored, bits, refusal-stored, checked-stored, number-stored, route-stored, eval-stored, evaluated-stored, window-stored, reply-stored, same-stored, same-cells}
 

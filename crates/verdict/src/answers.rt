@@ -1,15 +1,16 @@
 // Answers as they are stored, and whether two are the same.
 ghost use mathlib.Core.Path.{_≡_};
-ghost use Rattle.planner.specs.Told.{checked-told, evaluated-told, number-told, replied-told};
+ghost use Rattle.planner.specs.Told.{replied-told};
+ghost use Rattle.planner_questions.specs.Told.{checked-told, evaluated-told, number-told};
 ghost use Rattle.verdict.specs.Answers.{stored, refusal-stored, checked-stored, number-stored, route-stored, eval-stored, evaluated-stored, window-stored, reply-stored, same-stored, same-rest, same-cells};
 use evaluation::eval::Eval;
 use evaluation::eval::RouteEval;
 use evaluation::schedule::Taken;
 use models::customer::Window;
 use planner::calls::Replied;
-use planner::questions::Checked;
-use planner::questions::Evaluated;
-use planner::questions::Number;
+use planner_questions::Checked;
+use planner_questions::Evaluated;
+use planner_questions::Number;
 use stored::values::bits_of;
 
 // An answer as seven numbers: a tag, which is 0 for a refusal, and what an answer with that tag holds, floats by their bits. What it lacks is 0.

@@ -2,7 +2,7 @@
 use mathlib.Core.Path.{ap, _∙_}
 use mathlib.Core.List.{[]}
 use Rattle.planner.specs.Calls.{answered}
-use Rattle.planner.specs.Told.{checked-told}
+use Rattle.planner_questions.specs.Told.{checked-told}
 use Rattle.cobrwydd.specs.Said.{values}
 use Rattle.cobrwydd.proofs.AnswerLaws.{one-cell, put-refused, put-answered}
 use borrow.Author.Needs.{needs}

@@ -1,6 +1,6 @@
 -- `answers::put_evaluated` meets its contract.
 use mathlib.Core.Path.{ap}
-use Rattle.planner.specs.Told.{evaluated-told}
+use Rattle.planner_questions.specs.Told.{evaluated-told}
 use Rattle.cobrwydd.proofs.AnswerLaws.{put-refused, put-same}
 use borrow.Author.Needs.{needs}
 use Rattle.cobrwydd.proofs.answers.put_evaluated.Statement.{statement}

@@ -2,7 +2,7 @@
 use mathlib.Core.Path.{ap}
 use mathlib.Core.List.{List, []}
 use lib.Ieee.{Float}
-use Rattle.planner.specs.Told.{number-told}
+use Rattle.planner_questions.specs.Told.{number-told}
 use Rattle.cobrwydd.specs.Said.{values}
 use Rattle.cobrwydd.proofs.AnswerLaws.{one-cell, put-refused, put-answered}
 use borrow.Author.Needs.{needs}
