@@ -9,7 +9,7 @@ use Rattle.models.specs.Problem.{Problem}
 use Rattle.call_lists.specs.declared.Ran.{Ran}
 use Rattle.call_lists.specs.declared.Ran.the-variants.{Malformed, Done as RanAll}
 use Rattle.call_lists.specs.Lists.{Buffers, well-formed, Untouched, All-run, Leaves}
-use Rattle.cobrwydd.specs.Said.{misfit}
+use Rattle.c_values.specs.Said.{misfit}
 use Rattle.cobrwydd.specs.Lists.{list-code, Ran-list}
 
 -- where the test of `given` leaves 101 and where it leaves 0

@@ -2,10 +2,10 @@
 // after each call recorded. A call that returns another number than 0 changes nothing.
 ghost use Rattle.models.specs.Problem.{problem};
 ghost use Rattle.call_lists.specs.Lists.{buffers};
-ghost use Rattle.cobrwydd.specs.VehicleOf.{vehicle-of};
+ghost use Rattle.c_values.specs.VehicleOf.{vehicle-of};
 ghost use Rattle.cobrwydd.specs.Lists.{Ran-list};
-use crate::answers::misfit;
-use crate::vehicle::vehicle_of;
+use c_values::answers::misfit;
+use c_values::vehicle::vehicle_of;
 use call_lists::Ran;
 
 // The calls that `calls` and `tapes` ask for: six words of `calls` for each (kind, M, K, words of its tape, u16 and f64 work cells), the tapes one after the

@@ -5,14 +5,14 @@ ghost use mathlib.Core.List.{[]};
 ghost use Rattle.models.specs.Vehicle.{vehicle-break-new};
 ghost use Rattle.models.specs.Problem.{problem};
 ghost use Rattle.planner.specs.Calls.{answered, public-route-feasible, public-route-eval, public-effective-cost, public-schedule, public-route-distance, public-lateness-bound, public-gain-floor, public-time-window-new};
-ghost use Rattle.cobrwydd.specs.VehicleOf.{vehicle-of};
-ghost use Rattle.cobrwydd.specs.Said.{values, says, question, checked-values, number-values, eval-values, window-values};
-use crate::answers::misfit;
-use crate::answers::put_checked;
-use crate::answers::put_evaluated;
-use crate::answers::put_number;
-use crate::answers::put_window;
-use crate::vehicle::vehicle_of;
+ghost use Rattle.c_values.specs.VehicleOf.{vehicle-of};
+ghost use Rattle.c_values.specs.Said.{values, says, question, checked-values, number-values, eval-values, window-values};
+use c_values::answers::misfit;
+use c_values::answers::put_checked;
+use c_values::answers::put_evaluated;
+use c_values::answers::put_number;
+use c_values::answers::put_window;
+use c_values::vehicle::vehicle_of;
 use models::vehicle::VehicleBreak;
 
 // Whether a route passes the check: found[0].
