@@ -3,9 +3,6 @@ ghost use mathlib.Core.Path.{_≡_};
 ghost use Rattle.models.specs.Problem.{problem};
 ghost use Rattle.planner.specs.Calls.{public-route-feasible, public-route-eval, public-effective-cost, public-schedule, public-route-distance, public-lateness-bound, public-gain-floor, public-time-window-new};
 ghost use Rattle.planner_questions.specs.Told.{checked-told, evaluated-told, number-told};
-use entry::calls::problem_refusal;
-use entry::calls::route_refusal;
-use entry::calls::schedule_refusal;
 use evaluation::bound;
 use evaluation::check;
 use evaluation::eval;
@@ -17,6 +14,9 @@ use models::customer::Window;
 use models::limits::RouteLimits;
 use models::vehicle::Vehicle;
 use models::vehicle::VehicleBreak;
+use refusals::calls::problem_refusal;
+use refusals::calls::route_refusal;
+use refusals::calls::schedule_refusal;
 
 // The answer yes or no, or the number of the refusal.
 pub enum Checked {
