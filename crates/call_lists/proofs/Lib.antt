@@ -1,6 +1,4 @@
 -- Laws of lists of calls in code.
--- the form of a list of calls
-pub mod FormLaws
 -- one call of a list, and how it is recorded
 pub mod RecordLaws
 -- the run of a list

@@ -19,14 +19,15 @@ use Rattle.local_search.specs.declared.rounds.Reduction.{Reduction}
 use Rattle.local_search.specs.Rounds.{Result}
 use Rattle.entry.specs.Table.{Work, Inputs, Row, table, first-applying, refusal}
 use Rattle.entry.specs.Given.{minimise-inputs, eliminate-inputs}
-use Rattle.call_lists.specs.declared.Words.{Words}
+use Rattle.call_words.specs.declared.Words.{Words}
 use Rattle.planner.specs.Calls.{Answer, refused, answered, Reply, reply, public-minimise, public-eliminate}
 use Rattle.planner.specs.Told.{work-of}
 use Rattle.planner.specs.Run.{Call, minimise, eliminate, call, run, Claim}
-use Rattle.call_lists.specs.Lists.{Buffers, plan-slices, both-slices, words-first, words-of, call-of, decoded, count-of, calls-in, kind-passes, call-passes, calls-pass, well-formed, answer-words, answer-in, answer-row, slices-row, recorded, rows, put, last-slices, replies-in, All-run}
-use Rattle.call_lists.specs.Recording.{words-at, Next, reply-at, Recorded}
+use Rattle.call_words.specs.Words.{Buffers, plan-slices, both-slices, words-first, words-of, call-of, decoded, count-of, calls-in, kind-passes, call-passes, calls-pass, well-formed, answer-words, answer-in, answer-row, slices-row, recorded, rows, put, words-at}
+use Rattle.call_lists.specs.Lists.{last-slices, replies-in, All-run}
+use Rattle.call_lists.specs.Recording.{Next, reply-at, Recorded}
 use Rattle.planner.proofs.Demand3.{demand-3}
-use Rattle.call_lists.proofs.FormLaws.{words-more}
+use Rattle.call_words.proofs.FormLaws.{words-more}
 
 -- ---- the number of a refusal is not 0
 

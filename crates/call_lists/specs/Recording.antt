@@ -4,14 +4,10 @@ use mathlib.Core.Path.{_≡_}
 use mathlib.Core.List.{List, _++_}
 use lib.ListN.{length, drop}
 use Rattle.models.specs.Problem.{Problem}
-use Rattle.call_lists.specs.declared.Words.{Words}
 use Rattle.planner.specs.Calls.{Reply}
 use Rattle.planner.specs.Run.{call}
-use Rattle.call_lists.specs.Lists.{Buffers, plan-slices, both-slices, words-first, call-of, answer-words, put}
-
--- the words of call i
-abbrev pub words-at : ℕ → List ℕ → Words
-words-at i calls = words-first (drop (i * 6) calls)
+use Rattle.call_words.specs.declared.Words.{Words}
+use Rattle.call_words.specs.Words.{Buffers, plan-slices, both-slices, words-at, call-of, answer-words, put}
 
 -- the tape words and work cells that a call is lent are there
 pub record Lent (w : Words) (from tapes work cells : ℕ) : Type 0 where

@@ -8,7 +8,8 @@ use lib.Dec.{leb}
 use Rattle.models.specs.Problem.{Problem}
 use Rattle.call_lists.specs.declared.Ran.{Ran}
 use Rattle.call_lists.specs.declared.Ran.the-variants.{Malformed, Done as RanAll}
-use Rattle.call_lists.specs.Lists.{Buffers, well-formed, Untouched, All-run, Leaves}
+use Rattle.call_words.specs.Words.{Buffers, well-formed}
+use Rattle.call_lists.specs.Lists.{Untouched, All-run, Leaves}
 use Rattle.c_values.specs.Said.{misfit}
 use Rattle.cobrwydd.specs.Lists.{list-code, Ran-list}
 

@@ -6,7 +6,8 @@ use mathlib.Core.Bool.{cond}
 use lib.ListN.{length}
 use lib.Dec.{leb}
 use Rattle.models.specs.Problem.{Problem}
-use Rattle.call_lists.specs.Lists.{Buffers, well-formed, calls-in, All-run}
+use Rattle.call_words.specs.Words.{Buffers, well-formed, calls-in}
+use Rattle.call_lists.specs.Lists.{All-run}
 
 -- 101 where `given` is over 7, then 102 where the words of the list or the lengths of the slices do not fit together, else 0
 unfoldable pub list-code : ℕ → List ℕ → List ℕ → Buffers → ℕ

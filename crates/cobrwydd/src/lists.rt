@@ -1,7 +1,7 @@
 // A list of calls in one: minimise and eliminate over one problem, each on the plan as the last one left it, with every answer and both slices
 // after each call recorded. A call that returns another number than 0 changes nothing.
 ghost use Rattle.models.specs.Problem.{problem};
-ghost use Rattle.call_lists.specs.Lists.{buffers};
+ghost use Rattle.call_words.specs.Words.{buffers};
 ghost use Rattle.c_values.specs.VehicleOf.{vehicle-of};
 ghost use Rattle.cobrwydd.specs.Lists.{Ran-list};
 use c_values::answers::misfit;

@@ -2,7 +2,7 @@
 use Prim.Native.Nat.{_-_}
 use native.Mathlib.Omega.{arith}
 use Rattle.models.specs.Problem.{problem}
-use Rattle.call_lists.specs.Lists.{buffers}
+use Rattle.call_words.specs.Words.{buffers}
 use Rattle.call_lists.proofs.RunLaws.{Running, running-start, running-words, running-next, running-more, running-end}
 use Rattle.call_lists.proofs.run_all.Statement.{statement}
 use Rattle.call_lists.proofs.run_all.Tie as tie

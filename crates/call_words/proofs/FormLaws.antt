@@ -10,9 +10,8 @@ use lib.Seq.{getD-drop, drop-drop}
 use lib.Dec.{eqb, leb}
 use borrow.Author.Tests.{eqb-true, eqb-false, eq-eqb, ne-eqb, le-leb, lt-leb}
 use Rattle.entry.specs.Table.{Work}
-use Rattle.call_lists.specs.declared.Words.{Words}
-use Rattle.call_lists.specs.Lists.{words-first, words-of, call-passes, calls-pass}
-use Rattle.call_lists.specs.Recording.{words-at}
+use Rattle.call_words.specs.declared.Words.{Words}
+use Rattle.call_words.specs.Words.{words-first, words-of, call-passes, calls-pass, words-at}
 
 -- ---- `is_product`
 

@@ -2,9 +2,9 @@
 use borrow.Author.Tests.{not-true, not-false}
 use borrow.Author.Needs.{needs}
 use Rattle.laws.specs.Picks.{picks}
-use Rattle.call_lists.specs.Lists.{well-formed}
-use Rattle.call_lists.proofs.well_formed.Statement.{statement}
-use Rattle.call_lists.proofs.well_formed.Tie as tie
+use Rattle.call_words.specs.Words.{well-formed}
+use Rattle.call_words.proofs.well_formed.Statement.{statement}
+use Rattle.call_words.proofs.well_formed.Tie as tie
 
 mul-if1 : tie.Need-mul-if1
 mul-if1 c = search needs

@@ -1,8 +1,8 @@
 -- `is_product` meets its contract.
 use borrow.Author.Needs.{needs}
-use Rattle.call_lists.proofs.FormLaws.{product-none, product-rest, product-whole}
-use Rattle.call_lists.proofs.is_product.Statement.{statement}
-use Rattle.call_lists.proofs.is_product.Tie as tie
+use Rattle.call_words.proofs.FormLaws.{product-none, product-rest, product-whole}
+use Rattle.call_words.proofs.is_product.Statement.{statement}
+use Rattle.call_words.proofs.is_product.Tie as tie
 
 returns : tie.Need-returns
 returns c = search product-none

@@ -1,8 +1,8 @@
 -- `kind_passes` meets its contract.
 use Rattle.laws.specs.Picks.{picks}
-use Rattle.call_lists.specs.Lists.{kind-passes}
-use Rattle.call_lists.proofs.kind_passes.Statement.{statement}
-use Rattle.call_lists.proofs.kind_passes.Tie as tie
+use Rattle.call_words.specs.Words.{kind-passes}
+use Rattle.call_words.proofs.kind_passes.Statement.{statement}
+use Rattle.call_words.proofs.kind_passes.Tie as tie
 
 returns : tie.Need-returns
 unfolding kind-passes

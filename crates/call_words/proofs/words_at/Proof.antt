@@ -1,8 +1,8 @@
 -- `words_at` meets its contract.
 use borrow.Author.Needs.{needs}
-use Rattle.call_lists.proofs.FormLaws.{words-read}
-use Rattle.call_lists.proofs.words_at.Statement.{statement}
-use Rattle.call_lists.proofs.words_at.Tie as tie
+use Rattle.call_words.proofs.FormLaws.{words-read}
+use Rattle.call_words.proofs.words_at.Statement.{statement}
+use Rattle.call_words.proofs.words_at.Tie as tie
 
 mul-at : tie.Need-mul-at
 mul-at c = search needs

@@ -2,9 +2,9 @@
 use borrow.Author.Tests.{le-leb, lt-leb, not-true, not-false}
 use borrow.Author.Needs.{needs}
 use Rattle.laws.specs.Picks.{picks}
-use Rattle.call_lists.specs.Lists.{call-passes}
-use Rattle.call_lists.proofs.call_passes.Statement.{statement}
-use Rattle.call_lists.proofs.call_passes.Tie as tie
+use Rattle.call_words.specs.Words.{call-passes}
+use Rattle.call_words.proofs.call_passes.Statement.{statement}
+use Rattle.call_words.proofs.call_passes.Tie as tie
 
 kind-passes-requires : tie.Need-kind-passes-requires
 kind-passes-requires c κs = search needs

@@ -8,7 +8,7 @@ use lib.Ieee.{nan}
 use Rattle.planner.specs.Calls.{refused, answered}
 use Rattle.planner.specs.Told.{slices-of, work-of}
 use Rattle.planner.specs.Run.{minimise, eliminate}
-use Rattle.call_lists.specs.Lists.{Buffers, buffers, words-of, decoded, calls-in, kind-passes, call-passes, calls-pass, well-formed, recorded}
+use Rattle.call_words.specs.Words.{Buffers, buffers, words-of, decoded, calls-in, kind-passes, call-passes, calls-pass, well-formed, recorded}
 
 -- a minimise with M = 5, K = 6 and two tape words, before other calls; an eliminate with so many u16 work cells
 abbrev first-call : List ℕ → List ℕ

@@ -4,9 +4,9 @@ use borrow.Author.Tests.{not-true, not-false}
 use borrow.Author.Needs.{needs}
 use Rattle.laws.specs.Picks.{via}
 use Rattle.planner.specs.Told.{work-of}
-use Rattle.call_lists.proofs.FormLaws.{Judging, judging-laws}
-use Rattle.call_lists.proofs.calls_pass.Statement.{statement}
-use Rattle.call_lists.proofs.calls_pass.Tie as tie
+use Rattle.call_words.proofs.FormLaws.{Judging, judging-laws}
+use Rattle.call_words.proofs.calls_pass.Statement.{statement}
+use Rattle.call_words.proofs.calls_pass.Tie as tie
 
 abbrev Inv-loop : tie.InvT-loop
 Inv-loop calls count tapes small wide left₀ i₀ left i = Judging (work-of small wide) calls count tapes left i
