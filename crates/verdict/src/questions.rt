@@ -1,16 +1,16 @@
 // The stored questions: what each kind asks.
 ghost use mathlib.Core.Path.{_≡_};
 ghost use Rattle.models.specs.Problem.{problem};
-ghost use Rattle.verdict.specs.Answers.{same-stored};
+ghost use Rattle.stored_answers.specs.Answers.{same-stored};
 ghost use Rattle.verdict.specs.Asked.{route-question, question};
-use crate::answers::Stored;
-use crate::answers::of_checked;
-use crate::answers::of_evaluated;
-use crate::answers::of_number;
-use crate::answers::of_window;
-use crate::answers::same_stored;
 use models::vehicle::Vehicle;
 use models::vehicle::VehicleBreak;
+use stored_answers::Stored;
+use stored_answers::of_checked;
+use stored_answers::of_evaluated;
+use stored_answers::of_number;
+use stored_answers::of_window;
+use stored_answers::same_stored;
 
 // The answer to a question about a route. Three floats are the break that `schedule` is given.
 fn ask_of_route(

@@ -1,10 +1,10 @@
--- `answers::same_cells` meets its contract. Assumes nothing.
+-- `same_cells` meets its contract. Assumes nothing.
 use Prim.Native.Nat.{_-_}
 use lib.ListN.{length}
 use borrow.Author.Needs.{needs}
-use Rattle.verdict.proofs.AnswerLaws.{Comparing, cells-laws}
-use Rattle.verdict.proofs.answers.same_cells.Statement.{statement}
-use Rattle.verdict.proofs.answers.same_cells.Tie as tie
+use Rattle.stored_answers.proofs.AnswerLaws.{Comparing, cells-laws}
+use Rattle.stored_answers.proofs.same_cells.Statement.{statement}
+use Rattle.stored_answers.proofs.same_cells.Tie as tie
 
 abbrev Inv-loop : tie.InvT-loop
 Inv-loop xs ys i₀ i = Comparing xs ys i

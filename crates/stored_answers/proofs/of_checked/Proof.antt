@@ -1,8 +1,8 @@
--- `answers::of_checked` meets its contract. Assumes nothing.
+-- `of_checked` meets its contract. Assumes nothing.
 use borrow.Author.Needs.{needs}
-use Rattle.verdict.proofs.AnswerLaws.{arms}
-use Rattle.verdict.proofs.answers.of_checked.Statement.{statement}
-use Rattle.verdict.proofs.answers.of_checked.Tie as tie
+use Rattle.stored_answers.proofs.AnswerLaws.{arms}
+use Rattle.stored_answers.proofs.of_checked.Statement.{statement}
+use Rattle.stored_answers.proofs.of_checked.Tie as tie
 
 enum-known-answer : tie.Need-enum-known-answer
 enum-known-answer c = search needs

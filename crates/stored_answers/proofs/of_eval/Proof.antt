@@ -1,8 +1,8 @@
--- `answers::of_eval` meets its contract. Assumes nothing.
+-- `of_eval` meets its contract. Assumes nothing.
 use borrow.Author.Needs.{needs}
-use Rattle.verdict.proofs.AnswerLaws.{arms}
-use Rattle.verdict.proofs.answers.of_eval.Statement.{statement}
-use Rattle.verdict.proofs.answers.of_eval.Tie as tie
+use Rattle.stored_answers.proofs.AnswerLaws.{arms}
+use Rattle.stored_answers.proofs.of_eval.Statement.{statement}
+use Rattle.stored_answers.proofs.of_eval.Tie as tie
 
 enum-told : tie.Need-enum-told
 enum-told c = search needs

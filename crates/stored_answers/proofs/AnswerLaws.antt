@@ -30,8 +30,8 @@ use Rattle.planner_questions.specs.declared.Number.the-variants.{Refused as NoN
 use Rattle.planner.specs.Calls.{Answer}
 use Rattle.planner.specs.Told.{replied-told}
 use Rattle.planner_questions.specs.Told.{checked-told, evaluated-told, number-told}
-use Rattle.verdict.specs.declared.answers.Stored.{Stored}
-use Rattle.verdict.specs.Answers.{stored, bits, refusal-stored, checked-stored, number-stored, route-stored, eval-stored, evaluated-stored, window-stored, reply-stored, same-stored, same-cells}
+use Rattle.stored_answers.specs.declared.Stored.{Stored}
+use Rattle.stored_answers.specs.Answers.{stored, bits, refusal-stored, checked-stored, number-stored, route-stored, eval-stored, evaluated-stored, window-stored, reply-stored, same-stored, same-cells}
 
 -- ---- the arms
 

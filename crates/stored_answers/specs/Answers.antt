@@ -13,7 +13,7 @@ use Rattle.evaluation.specs.declared.schedule.Taken.{Taken}
 use Rattle.evaluation.specs.declared.schedule.Taken.the-variants.{No, At}
 use Rattle.local_search.specs.declared.rounds.Reduction.{Reduction}
 use Rattle.planner.specs.Calls.{Answer, refused, answered}
-use Rattle.verdict.specs.declared.answers.Stored.{Stored}
+use Rattle.stored_answers.specs.declared.Stored.{Stored}
 
 -- a tag and six numbers
 abbrev pub stored : ℕ → ℕ → ℕ → ℕ → ℕ → ℕ → ℕ → Stored

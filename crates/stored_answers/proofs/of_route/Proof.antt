@@ -1,8 +1,8 @@
--- `answers::of_route` meets its contract. Assumes nothing.
+-- `of_route` meets its contract. Assumes nothing.
 use borrow.Author.Needs.{needs}
-use Rattle.verdict.proofs.AnswerLaws.{arms}
-use Rattle.verdict.proofs.answers.of_route.Statement.{statement}
-use Rattle.verdict.proofs.answers.of_route.Tie as tie
+use Rattle.stored_answers.proofs.AnswerLaws.{arms}
+use Rattle.stored_answers.proofs.of_route.Statement.{statement}
+use Rattle.stored_answers.proofs.of_route.Tie as tie
 
 bits-of-requires : tie.Need-bits-of-requires
 bits-of-requires c κs = search needs

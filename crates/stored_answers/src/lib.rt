@@ -2,7 +2,7 @@
 ghost use mathlib.Core.Path.{_≡_};
 ghost use Rattle.planner.specs.Told.{replied-told};
 ghost use Rattle.planner_questions.specs.Told.{checked-told, evaluated-told, number-told};
-ghost use Rattle.verdict.specs.Answers.{stored, refusal-stored, checked-stored, number-stored, route-stored, eval-stored, evaluated-stored, window-stored, reply-stored, same-stored, same-rest, same-cells};
+ghost use Rattle.stored_answers.specs.Answers.{stored, refusal-stored, checked-stored, number-stored, route-stored, eval-stored, evaluated-stored, window-stored, reply-stored, same-stored, same-rest, same-cells};
 use evaluation::eval::Eval;
 use evaluation::eval::RouteEval;
 use evaluation::schedule::Taken;

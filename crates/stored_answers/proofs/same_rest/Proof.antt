@@ -1,7 +1,7 @@
--- `answers::same_rest` meets its contract. Assumes nothing.
+-- `same_rest` meets its contract. Assumes nothing.
 use Rattle.laws.specs.Picks.{picks}
-use Rattle.verdict.proofs.answers.same_rest.Statement.{statement}
-use Rattle.verdict.proofs.answers.same_rest.Tie as tie
+use Rattle.stored_answers.proofs.same_rest.Statement.{statement}
+use Rattle.stored_answers.proofs.same_rest.Tie as tie
 
 returns : tie.Need-returns
 returns c = search picks depth 12
