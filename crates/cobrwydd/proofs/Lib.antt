@@ -1,7 +1,3 @@
--- Laws of this crate's definitions. A file uses only files above it in this list.
--- the vehicle
-pub mod VehicleLaws
--- answers in slices
-pub mod AnswerLaws
+-- Laws of this crate's definitions.
 -- a list of calls
 pub mod ListLaws

@@ -6,10 +6,11 @@ use mathlib.Core.Bool.{Bool, true, false, cond}
 use native.Mathlib.Omega.{arith}
 use lib.Dec.{leb}
 use Rattle.models.specs.Problem.{Problem}
-use Rattle.planner.specs.declared.lists.Ran.{Ran}
-use Rattle.planner.specs.declared.lists.Ran.the-variants.{Malformed, Done as RanAll}
-use Rattle.planner.specs.Lists.{Buffers, well-formed, Untouched, All-run, Leaves}
-use Rattle.cobrwydd.specs.Said.{misfit}
+use Rattle.call_lists.specs.declared.Ran.{Ran}
+use Rattle.call_lists.specs.declared.Ran.the-variants.{Malformed, Done as RanAll}
+use Rattle.call_words.specs.Words.{Buffers, well-formed}
+use Rattle.call_lists.specs.Lists.{Untouched, All-run, Leaves}
+use Rattle.c_values.specs.Said.{misfit}
 use Rattle.cobrwydd.specs.Lists.{list-code, Ran-list}
 
 -- where the test of `given` leaves 101 and where it leaves 0

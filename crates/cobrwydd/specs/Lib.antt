@@ -1,7 +1,3 @@
--- The C interface. A file uses only files above it in this list.
--- a vehicle of numbers
-pub mod VehicleOf
--- what a function returns and writes
-pub mod Said
+-- The C interface; what a function returns and writes is in c_values.
 -- a list of calls
 pub mod Lists

@@ -1,13 +1,12 @@
 // A list of calls in one: minimise and eliminate over one problem, each on the plan as the last one left it, with every answer and both slices
 // after each call recorded. A call that returns another number than 0 changes nothing.
 ghost use Rattle.models.specs.Problem.{problem};
-ghost use Rattle.planner.specs.Lists.{buffers};
-ghost use Rattle.cobrwydd.specs.VehicleOf.{vehicle-of};
+ghost use Rattle.call_words.specs.Words.{buffers};
+ghost use Rattle.c_values.specs.VehicleOf.{vehicle-of};
 ghost use Rattle.cobrwydd.specs.Lists.{Ran-list};
-use crate::answers::misfit;
-use crate::vehicle::vehicle_of;
-use planner::lists;
-use planner::lists::Ran;
+use c_values::answers::misfit;
+use c_values::vehicle::vehicle_of;
+use call_lists::Ran;
 
 // The calls that `calls` and `tapes` ask for: six words of `calls` for each (kind, M, K, words of its tape, u16 and f64 work cells), the tapes one after the
 // other. Four words of `answers` for each (refusal or 0, routes, steps, draws), and in `history` the lengths and stops after it. 102 where the words or
@@ -62,7 +61,7 @@ pub extern "C" fn cobrwydd_run_calls(
         latest,
         duration,
     );
-    let ran = lists::run_calls(
+    let ran = call_lists::run_calls(
         lengths,
         stops,
         work,

@@ -5,16 +5,15 @@ ghost use mathlib.Core.List.{[]};
 ghost use Rattle.models.specs.Vehicle.{vehicle-break-new};
 ghost use Rattle.models.specs.Problem.{problem};
 ghost use Rattle.planner.specs.Calls.{answered, public-route-feasible, public-route-eval, public-effective-cost, public-schedule, public-route-distance, public-lateness-bound, public-gain-floor, public-time-window-new};
-ghost use Rattle.cobrwydd.specs.VehicleOf.{vehicle-of};
-ghost use Rattle.cobrwydd.specs.Said.{values, says, question, checked-values, number-values, eval-values, window-values};
-use crate::answers::misfit;
-use crate::answers::put_checked;
-use crate::answers::put_evaluated;
-use crate::answers::put_number;
-use crate::answers::put_window;
-use crate::vehicle::vehicle_of;
+ghost use Rattle.c_values.specs.VehicleOf.{vehicle-of};
+ghost use Rattle.c_values.specs.Said.{values, says, question, checked-values, number-values, eval-values, window-values};
+use c_values::answers::misfit;
+use c_values::answers::put_checked;
+use c_values::answers::put_evaluated;
+use c_values::answers::put_number;
+use c_values::answers::put_window;
+use c_values::vehicle::vehicle_of;
 use models::vehicle::VehicleBreak;
-use planner::questions;
 
 // Whether a route passes the check: found[0].
 #[no_mangle]
@@ -60,7 +59,7 @@ pub extern "C" fn cobrwydd_route_feasible(
         latest,
         duration,
     );
-    let answer = questions::route_feasible(
+    let answer = planner_questions::route_feasible(
         route,
         n,
         demand,
@@ -121,7 +120,7 @@ pub extern "C" fn cobrwydd_route_eval(
         latest,
         duration,
     );
-    let answer = questions::route_eval(
+    let answer = planner_questions::route_eval(
         route,
         n,
         demand,
@@ -181,7 +180,7 @@ pub extern "C" fn cobrwydd_effective_cost(
         latest,
         duration,
     );
-    let answer = questions::effective_cost(
+    let answer = planner_questions::effective_cost(
         route,
         n,
         demand,
@@ -246,7 +245,7 @@ pub extern "C" fn cobrwydd_schedule(
         duration,
     );
     let rest = VehicleBreak::new(break_earliest, break_latest, break_duration);
-    let answer = questions::schedule(
+    let answer = planner_questions::schedule(
         route,
         rest,
         n,
@@ -307,7 +306,7 @@ pub extern "C" fn cobrwydd_route_distance(
         latest,
         duration,
     );
-    let answer = questions::route_distance(
+    let answer = planner_questions::route_distance(
         route,
         n,
         demand,
@@ -366,7 +365,7 @@ pub extern "C" fn cobrwydd_lateness_bound(
         latest,
         duration,
     );
-    let answer = questions::lateness_bound(
+    let answer = planner_questions::lateness_bound(
         n,
         demand,
         service,
@@ -424,7 +423,7 @@ pub extern "C" fn cobrwydd_gain_floor(
         latest,
         duration,
     );
-    let answer = questions::gain_floor(
+    let answer = planner_questions::gain_floor(
         n,
         demand,
         service,
@@ -453,6 +452,6 @@ pub extern "C" fn cobrwydd_time_window_new(
     if fault != 0 {
         return fault;
     }
-    let window = questions::time_window_new(ready, due);
+    let window = planner_questions::time_window_new(ready, due);
     put_window(out, found, window)
 }

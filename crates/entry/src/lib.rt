@@ -1,7 +1,2 @@
-// The entry checks: what a call is refused with before it begins, row by row of the refusal table (specs/Table.antt).
-pub mod amounts;
-pub mod calls;
-pub mod places;
-pub mod rows;
-pub mod sizes;
+// The entry checks: the refusal table (specs/Table.antt), and its rows 5 and 6, of a plan or a route, in code.
 pub mod stops;

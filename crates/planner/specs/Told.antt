@@ -1,34 +1,13 @@
--- What the enums of the code say, as answers of the public calls. Assumes nothing.
+-- What the code's enum says, as the answer of a call that changes a plan, and the slices that a call is lent. Assumes nothing.
 use Prim.Native.Nat.{ℕ}
 use mathlib.Core.Path.{_≡_}
-use mathlib.Core.Bool.{Bool}
 use mathlib.Core.List.{List}
-use lib.Ieee.{Float}
-use Rattle.evaluation.specs.declared.eval.Eval.{Eval}
-use Rattle.planner.specs.declared.questions.Checked.{Checked}
-use Rattle.planner.specs.declared.questions.Checked.the-variants.{Refused as NotChecked, Answered as CheckedAs}
-use Rattle.planner.specs.declared.questions.Evaluated.{Evaluated}
-use Rattle.planner.specs.declared.questions.Evaluated.the-variants.{Refused as NotEvaluated, Answered as EvaluatedAs}
-use Rattle.planner.specs.declared.questions.Number.{Number}
-use Rattle.planner.specs.declared.questions.Number.the-variants.{Refused as NoNumber, Answered as NumberAs}
 use Rattle.plan.specs.Plan.{Slices}
 use Rattle.local_search.specs.declared.rounds.Reduction.{Reduction}
 use Rattle.entry.specs.Table.{Work}
 use Rattle.planner.specs.declared.calls.Replied.{Replied}
 use Rattle.planner.specs.declared.calls.Replied.the-variants.{Refused as NotReplied, Answered as RepliedAs}
 use Rattle.planner.specs.Calls.{Answer, refused, answered, Reply}
-
-abbrev pub checked-told : Checked → Answer Bool
-checked-told (NotChecked n) = refused n
-checked-told (CheckedAs b) = answered b
-
-abbrev pub evaluated-told : Evaluated → Answer Eval
-evaluated-told (NotEvaluated n) = refused n
-evaluated-told (EvaluatedAs e) = answered e
-
-abbrev pub number-told : Number → Answer Float
-number-told (NoNumber n) = refused n
-number-told (NumberAs x) = answered x
 
 abbrev pub replied-told : Replied → Answer Reduction
 replied-told (NotReplied n) = refused n

@@ -5,11 +5,11 @@ ghost use Rattle.models.specs.Problem.{problem};
 ghost use Rattle.ejection_pool.specs.Running.{allowance};
 ghost use Rattle.planner.specs.Calls.{public-minimise, public-eliminate};
 ghost use Rattle.planner.specs.Told.{reply-of, slices-of, work-of, Free-if-answered};
-use entry::calls::eliminate_refusal;
-use entry::calls::minimise_refusal;
 use local_search::rounds::Counts;
 use local_search::rounds::Reduction;
 use models::vehicle::Vehicle;
+use refusals::calls::eliminate_refusal;
+use refusals::calls::minimise_refusal;
 use route_elimination::eliminate_routes;
 use route_minimization::minimize_routes;
 

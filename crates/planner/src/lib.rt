@@ -1,5 +1,3 @@
-// The planner's public calls: minimise, eliminate, lists of them, and the questions about one route or the problem.
-// The refusal table, the definition of every call and the claim about lists of calls are in specs/.
+// The planner's calls that change a plan: minimise and eliminate.
+// The definition of every public call and the claim about lists of calls are in specs/.
 pub mod calls;
-pub mod lists;
-pub mod questions;

@@ -13,7 +13,7 @@ use stored::text::FAULT;
 use stored::text::number;
 use stored::text::number_to;
 use stored::values::float_of;
-use verdict::answers::Stored;
+use stored_answers::Stored;
 use verdict::changes::change_agrees;
 use verdict::questions::question_agrees;
 

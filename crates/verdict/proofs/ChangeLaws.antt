@@ -11,8 +11,8 @@ use Rattle.entry.specs.Table.{Work}
 use Rattle.planner.specs.declared.calls.Replied.{Replied}
 use Rattle.planner.specs.Calls.{Reply, public-minimise, public-eliminate}
 use Rattle.planner.specs.Told.{replied-told, reply-of, slices-of}
-use Rattle.verdict.specs.declared.answers.Stored.{Stored}
-use Rattle.verdict.specs.Answers.{reply-stored, same-stored}
+use Rattle.stored_answers.specs.declared.Stored.{Stored}
+use Rattle.stored_answers.specs.Answers.{reply-stored, same-stored}
 use Rattle.verdict.specs.Asked.{change, same-plan, replayed, replayed-as}
 
 module _ (kind : ℕ) (p : Problem) (s : Slices) (given : Allowance) (w : Work) (y : Reply) where

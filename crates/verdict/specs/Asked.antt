@@ -10,8 +10,8 @@ use Rattle.ejection_pool.specs.Pool.{Allowance}
 use Rattle.entry.specs.Table.{Work}
 use Rattle.planner.specs.Told.{slices-of}
 use Rattle.planner.specs.Calls.{Reply, public-minimise, public-eliminate, public-route-feasible, public-route-eval, public-effective-cost, public-schedule, public-route-distance, public-lateness-bound, public-gain-floor, public-time-window-new}
-use Rattle.verdict.specs.declared.answers.Stored.{Stored}
-use Rattle.verdict.specs.Answers.{checked-stored, number-stored, evaluated-stored, window-stored, reply-stored, same-stored, same-cells}
+use Rattle.stored_answers.specs.declared.Stored.{Stored}
+use Rattle.stored_answers.specs.Answers.{checked-stored, number-stored, evaluated-stored, window-stored, reply-stored, same-stored, same-cells}
 
 -- Kinds of calls are numbered as in `KINDS` of the comparison: 0 minimise, 1 eliminate, 2 route_feasible, 3 route_eval, 4 effective_cost, 5 schedule,
 -- 6 route_distance, 7 lateness_bound, 8 gain_floor, 9 time_window_new.

@@ -1,5 +1,3 @@
 -- What is compared.
--- answers as they are stored
-pub mod Answers
 -- what a stored call asks
 pub mod Asked

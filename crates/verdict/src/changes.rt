@@ -5,14 +5,14 @@ ghost use Rattle.models.specs.Problem.{problem};
 ghost use Rattle.ejection_pool.specs.Running.{allowance};
 ghost use Rattle.planner.specs.Told.{reply-of, slices-of, work-of};
 ghost use Rattle.verdict.specs.Asked.{change, same-plan, replayed, replayed-as};
-use crate::answers::Stored;
-use crate::answers::of_replied;
-use crate::answers::same_cells;
-use crate::answers::same_stored;
 use models::vehicle::Vehicle;
 use planner::calls::Replied;
 use planner::calls::eliminate;
 use planner::calls::minimise;
+use stored_answers::Stored;
+use stored_answers::of_replied;
+use stored_answers::same_cells;
+use stored_answers::same_stored;
 
 // What a call answers: minimise, or eliminate for any other kind.
 fn changed(

@@ -1,17 +1,16 @@
 // The stored questions: what each kind asks.
 ghost use mathlib.Core.Path.{_≡_};
 ghost use Rattle.models.specs.Problem.{problem};
-ghost use Rattle.verdict.specs.Answers.{same-stored};
+ghost use Rattle.stored_answers.specs.Answers.{same-stored};
 ghost use Rattle.verdict.specs.Asked.{route-question, question};
-use crate::answers::Stored;
-use crate::answers::of_checked;
-use crate::answers::of_evaluated;
-use crate::answers::of_number;
-use crate::answers::of_window;
-use crate::answers::same_stored;
 use models::vehicle::Vehicle;
 use models::vehicle::VehicleBreak;
-use planner::questions;
+use stored_answers::Stored;
+use stored_answers::of_checked;
+use stored_answers::of_evaluated;
+use stored_answers::of_number;
+use stored_answers::of_window;
+use stored_answers::same_stored;
 
 // The answer to a question about a route. Three floats are the break that `schedule` is given.
 fn ask_of_route(
@@ -35,7 +34,7 @@ fn ask_of_route(
         (now (distances .entry)) (now (times .entry)) vehicle) (now (route .entry)) x y z ⌝ }
 {
     if kind == 2 {
-        return of_checked(questions::route_feasible(
+        return of_checked(planner_questions::route_feasible(
             route,
             n,
             demand,
@@ -50,7 +49,7 @@ fn ask_of_route(
         ));
     }
     if kind == 3 {
-        return of_evaluated(questions::route_eval(
+        return of_evaluated(planner_questions::route_eval(
             route,
             n,
             demand,
@@ -65,7 +64,7 @@ fn ask_of_route(
         ));
     }
     if kind == 4 {
-        return of_number(questions::effective_cost(
+        return of_number(planner_questions::effective_cost(
             route,
             n,
             demand,
@@ -85,7 +84,7 @@ fn ask_of_route(
             latest: y,
             duration: z,
         };
-        return of_evaluated(questions::schedule(
+        return of_evaluated(planner_questions::schedule(
             route,
             rest,
             n,
@@ -100,7 +99,7 @@ fn ask_of_route(
             vehicle,
         ));
     }
-    of_number(questions::route_distance(
+    of_number(planner_questions::route_distance(
         route,
         n,
         demand,
@@ -137,7 +136,7 @@ fn ask(
         (now (distances .entry)) (now (times .entry)) vehicle) (now (route .entry)) x y z ⌝ }
 {
     if kind == 7 {
-        return of_number(questions::lateness_bound(
+        return of_number(planner_questions::lateness_bound(
             n,
             demand,
             service,
@@ -151,7 +150,7 @@ fn ask(
         ));
     }
     if kind == 8 {
-        return of_number(questions::gain_floor(
+        return of_number(planner_questions::gain_floor(
             n,
             demand,
             service,
@@ -165,7 +164,7 @@ fn ask(
         ));
     }
     if kind == 9 {
-        return of_window(questions::time_window_new(x, y));
+        return of_window(planner_questions::time_window_new(x, y));
     }
     ask_of_route(
         kind,

@@ -1,6 +1,6 @@
 -- `calls::cobrwydd_eliminate` meets its contract.
-use Rattle.cobrwydd.proofs.VehicleLaws.{vehicle-kept}
-use Rattle.cobrwydd.proofs.AnswerLaws.{numbers-fit, misfit-replied, call-replied, reply-free}
+use Rattle.c_values.proofs.VehicleLaws.{vehicle-kept}
+use Rattle.c_values.proofs.AnswerLaws.{numbers-fit, misfit-replied, call-replied, reply-free}
 use borrow.Author.Needs.{needs}
 use mathlib.Core.Path.{refl}
 use Rattle.cobrwydd.proofs.calls.cobrwydd_eliminate.Statement.{statement}

@@ -1,6 +1,6 @@
 -- `questions::cobrwydd_lateness_bound` meets its contract.
-use Rattle.cobrwydd.proofs.VehicleLaws.{vehicle-kept}
-use Rattle.cobrwydd.proofs.AnswerLaws.{floats-fit, misfit-said, answer-said}
+use Rattle.c_values.proofs.VehicleLaws.{vehicle-kept}
+use Rattle.c_values.proofs.AnswerLaws.{floats-fit, misfit-said, answer-said}
 use borrow.Author.Needs.{needs}
 use Rattle.cobrwydd.proofs.questions.cobrwydd_lateness_bound.Statement.{statement}
 use Rattle.cobrwydd.proofs.questions.cobrwydd_lateness_bound.Tie as tie

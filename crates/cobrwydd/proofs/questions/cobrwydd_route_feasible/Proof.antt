@@ -1,6 +1,6 @@
 -- `questions::cobrwydd_route_feasible` meets its contract.
-use Rattle.cobrwydd.proofs.VehicleLaws.{vehicle-kept}
-use Rattle.cobrwydd.proofs.AnswerLaws.{numbers-fit, misfit-said, answer-said}
+use Rattle.c_values.proofs.VehicleLaws.{vehicle-kept}
+use Rattle.c_values.proofs.AnswerLaws.{numbers-fit, misfit-said, answer-said}
 use borrow.Author.Needs.{needs}
 use Rattle.cobrwydd.proofs.questions.cobrwydd_route_feasible.Statement.{statement}
 use Rattle.cobrwydd.proofs.questions.cobrwydd_route_feasible.Tie as tie

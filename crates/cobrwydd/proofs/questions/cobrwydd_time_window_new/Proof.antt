@@ -1,7 +1,7 @@
 -- `questions::cobrwydd_time_window_new` meets its contract.
 use mathlib.Core.Path.{ap}
 use Rattle.planner.specs.Calls.{answered}
-use Rattle.cobrwydd.proofs.AnswerLaws.{floats-fit, numbers-fit, misfit-said, answer-said}
+use Rattle.c_values.proofs.AnswerLaws.{floats-fit, numbers-fit, misfit-said, answer-said}
 use borrow.Author.Needs.{needs}
 use Rattle.cobrwydd.proofs.questions.cobrwydd_time_window_new.Statement.{statement}
 use Rattle.cobrwydd.proofs.questions.cobrwydd_time_window_new.Tie as tie

@@ -1,7 +1,7 @@
 -- `questions::ask` meets its contract. Assumes nothing.
 use borrow.Author.Needs.{needs}
 use Rattle.laws.specs.Picks.{picks}
-use Rattle.verdict.proofs.AnswerLaws.{asks}
+use Rattle.stored_answers.proofs.AnswerLaws.{asks}
 use Rattle.verdict.specs.Asked.{question}
 use Rattle.verdict.proofs.questions.ask.Statement.{statement}
 use Rattle.verdict.proofs.questions.ask.Tie as tie

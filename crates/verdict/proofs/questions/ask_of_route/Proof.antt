@@ -1,7 +1,7 @@
 -- `questions::ask_of_route` meets its contract. Assumes nothing.
 use borrow.Author.Needs.{needs}
 use Rattle.laws.specs.Picks.{picks}
-use Rattle.verdict.proofs.AnswerLaws.{asks}
+use Rattle.stored_answers.proofs.AnswerLaws.{asks}
 use Rattle.verdict.specs.Asked.{route-question}
 use Rattle.verdict.proofs.questions.ask_of_route.Statement.{statement}
 use Rattle.verdict.proofs.questions.ask_of_route.Tie as tie

@@ -1,6 +1,6 @@
 -- `questions::question_agrees` meets its contract. Assumes nothing.
 use borrow.Author.Needs.{needs}
-use Rattle.verdict.proofs.AnswerLaws.{asked-same}
+use Rattle.stored_answers.proofs.AnswerLaws.{asked-same}
 use Rattle.verdict.proofs.questions.question_agrees.Statement.{statement}
 use Rattle.verdict.proofs.questions.question_agrees.Tie as tie
 

@@ -1,0 +1,3 @@
+-- Laws of the questions in code.
+-- refused and answered questions
+pub mod QuestionLaws

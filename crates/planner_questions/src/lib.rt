@@ -1,0 +1,349 @@
+// The questions about one route or about the problem: each is refused by the table, or answers.
+ghost use mathlib.Core.Path.{_≡_};
+ghost use Rattle.models.specs.Problem.{problem};
+ghost use Rattle.planner.specs.Calls.{public-route-feasible, public-route-eval, public-effective-cost, public-schedule, public-route-distance, public-lateness-bound, public-gain-floor, public-time-window-new};
+ghost use Rattle.planner_questions.specs.Told.{checked-told, evaluated-told, number-told};
+use evaluation::bound;
+use evaluation::check;
+use evaluation::eval;
+use evaluation::eval::Eval;
+use evaluation::schedule;
+use local_search::route;
+use models::customer::TimeWindow;
+use models::customer::Window;
+use models::limits::RouteLimits;
+use models::vehicle::Vehicle;
+use models::vehicle::VehicleBreak;
+use refusals::calls::problem_refusal;
+use refusals::calls::route_refusal;
+use refusals::calls::schedule_refusal;
+
+// The answer yes or no, or the number of the refusal.
+pub enum Checked {
+    Refused(u8),
+    Answered(bool),
+}
+
+// The evaluation of a route, or the number of the refusal.
+pub enum Evaluated {
+    Refused(u8),
+    Answered(Eval),
+}
+
+// A number, or the number of the refusal.
+pub enum Number {
+    Refused(u8),
+    Answered(f64),
+}
+
+// Whether a route passes the check.
+pub fn route_feasible(
+    route: &[u16],
+    n: usize,
+    demand: &[i32],
+    service: &[f64],
+    ready: &[f64],
+    due: &[f64],
+    penalty: &[f64],
+    flags: &[u8],
+    distances: &[f64],
+    times: &[f64],
+    vehicle: Vehicle,
+) -> Checked
+    ensures { λ a. ⌜ checked-told a ≡ public-route-feasible (problem n (now (demand .entry)) (now (service .entry)) (now (ready .entry)) (now (due .entry)) (now (penalty .entry)) (now (flags .entry))
+        (now (distances .entry)) (now (times .entry)) vehicle) (now (route .entry)) ⌝ }
+{
+    let r = route_refusal(
+        route,
+        n,
+        demand,
+        service,
+        ready,
+        due,
+        penalty,
+        flags,
+        distances,
+        times,
+        vehicle,
+    );
+    if r != 0 {
+        return Checked::Refused(r);
+    }
+    let passes = check::route_feasible(
+        route,
+        vehicle.depot_id,
+        RouteLimits::of(vehicle),
+        n,
+        distances,
+        times,
+        service,
+        ready,
+        due,
+        penalty,
+        flags,
+    );
+    Checked::Answered(passes)
+}
+
+// The evaluation of a route.
+pub fn route_eval(
+    route: &[u16],
+    n: usize,
+    demand: &[i32],
+    service: &[f64],
+    ready: &[f64],
+    due: &[f64],
+    penalty: &[f64],
+    flags: &[u8],
+    distances: &[f64],
+    times: &[f64],
+    vehicle: Vehicle,
+) -> Evaluated
+    ensures { λ a. ⌜ evaluated-told a ≡ public-route-eval (problem n (now (demand .entry)) (now (service .entry)) (now (ready .entry)) (now (due .entry)) (now (penalty .entry)) (now (flags .entry))
+        (now (distances .entry)) (now (times .entry)) vehicle) (now (route .entry)) ⌝ }
+{
+    let r = route_refusal(
+        route,
+        n,
+        demand,
+        service,
+        ready,
+        due,
+        penalty,
+        flags,
+        distances,
+        times,
+        vehicle,
+    );
+    if r != 0 {
+        return Evaluated::Refused(r);
+    }
+    let worth = eval::route_eval(
+        route,
+        vehicle.depot_id,
+        RouteLimits::of(vehicle),
+        n,
+        distances,
+        times,
+        service,
+        ready,
+        due,
+        penalty,
+        flags,
+    );
+    Evaluated::Answered(worth)
+}
+
+// What a route costs with its lateness.
+pub fn effective_cost(
+    route: &[u16],
+    n: usize,
+    demand: &[i32],
+    service: &[f64],
+    ready: &[f64],
+    due: &[f64],
+    penalty: &[f64],
+    flags: &[u8],
+    distances: &[f64],
+    times: &[f64],
+    vehicle: Vehicle,
+) -> Number
+    ensures { λ a. ⌜ number-told a ≡ public-effective-cost (problem n (now (demand .entry)) (now (service .entry)) (now (ready .entry)) (now (due .entry)) (now (penalty .entry)) (now (flags .entry))
+        (now (distances .entry)) (now (times .entry)) vehicle) (now (route .entry)) ⌝ }
+{
+    let r = route_refusal(
+        route,
+        n,
+        demand,
+        service,
+        ready,
+        due,
+        penalty,
+        flags,
+        distances,
+        times,
+        vehicle,
+    );
+    if r != 0 {
+        return Number::Refused(r);
+    }
+    let cost = eval::effective_cost(
+        route,
+        vehicle.depot_id,
+        RouteLimits::of(vehicle),
+        n,
+        distances,
+        times,
+        service,
+        ready,
+        due,
+        penalty,
+        flags,
+    );
+    Number::Answered(cost)
+}
+
+// The distance of a route.
+pub fn route_distance(
+    route: &[u16],
+    n: usize,
+    demand: &[i32],
+    service: &[f64],
+    ready: &[f64],
+    due: &[f64],
+    penalty: &[f64],
+    flags: &[u8],
+    distances: &[f64],
+    times: &[f64],
+    vehicle: Vehicle,
+) -> Number
+    ensures { λ a. ⌜ number-told a ≡ public-route-distance (problem n (now (demand .entry)) (now (service .entry)) (now (ready .entry)) (now (due .entry)) (now (penalty .entry)) (now (flags .entry))
+        (now (distances .entry)) (now (times .entry)) vehicle) (now (route .entry)) ⌝ }
+{
+    let r = route_refusal(
+        route,
+        n,
+        demand,
+        service,
+        ready,
+        due,
+        penalty,
+        flags,
+        distances,
+        times,
+        vehicle,
+    );
+    if r != 0 {
+        return Number::Refused(r);
+    }
+    let distance = route::route_distance(route, vehicle.depot_id, n, distances);
+    Number::Answered(distance)
+}
+
+// The bound on the lateness cost of a route.
+pub fn lateness_bound(
+    n: usize,
+    demand: &[i32],
+    service: &[f64],
+    ready: &[f64],
+    due: &[f64],
+    penalty: &[f64],
+    flags: &[u8],
+    distances: &[f64],
+    times: &[f64],
+    vehicle: Vehicle,
+) -> Number
+    ensures { λ a. ⌜ number-told a ≡ public-lateness-bound (problem n (now (demand .entry)) (now (service .entry)) (now (ready .entry)) (now (due .entry)) (now (penalty .entry)) (now (flags .entry))
+        (now (distances .entry)) (now (times .entry)) vehicle) ⌝ }
+{
+    let r = problem_refusal(
+        n,
+        demand,
+        service,
+        ready,
+        due,
+        penalty,
+        flags,
+        distances,
+        times,
+        vehicle,
+    );
+    if r != 0 {
+        return Number::Refused(r);
+    }
+    let most = bound::lateness_bound(n, distances, times, service, ready, due, penalty, flags);
+    Number::Answered(most)
+}
+
+// The least gain that counts as one.
+pub fn gain_floor(
+    n: usize,
+    demand: &[i32],
+    service: &[f64],
+    ready: &[f64],
+    due: &[f64],
+    penalty: &[f64],
+    flags: &[u8],
+    distances: &[f64],
+    times: &[f64],
+    vehicle: Vehicle,
+) -> Number
+    ensures { λ a. ⌜ number-told a ≡ public-gain-floor (problem n (now (demand .entry)) (now (service .entry)) (now (ready .entry)) (now (due .entry)) (now (penalty .entry)) (now (flags .entry))
+        (now (distances .entry)) (now (times .entry)) vehicle) ⌝ }
+{
+    let r = problem_refusal(
+        n,
+        demand,
+        service,
+        ready,
+        due,
+        penalty,
+        flags,
+        distances,
+        times,
+        vehicle,
+    );
+    if r != 0 {
+        return Number::Refused(r);
+    }
+    let floor = route::gain_floor(distances);
+    Number::Answered(floor)
+}
+
+// The schedule of a route with the break that is given, without limits.
+pub fn schedule(
+    route: &[u16],
+    rest: VehicleBreak,
+    n: usize,
+    demand: &[i32],
+    service: &[f64],
+    ready: &[f64],
+    due: &[f64],
+    penalty: &[f64],
+    flags: &[u8],
+    distances: &[f64],
+    times: &[f64],
+    vehicle: Vehicle,
+) -> Evaluated
+    ensures { λ a. ⌜ evaluated-told a ≡ public-schedule (problem n (now (demand .entry)) (now (service .entry)) (now (ready .entry)) (now (due .entry)) (now (penalty .entry)) (now (flags .entry))
+        (now (distances .entry)) (now (times .entry)) vehicle) rest (now (route .entry)) ⌝ }
+{
+    let r = schedule_refusal(
+        route,
+        rest,
+        n,
+        demand,
+        service,
+        ready,
+        due,
+        penalty,
+        flags,
+        distances,
+        times,
+        vehicle,
+    );
+    if r != 0 {
+        return Evaluated::Refused(r);
+    }
+    let timed = schedule::schedule(
+        route,
+        vehicle.depot_id,
+        rest,
+        n,
+        distances,
+        times,
+        service,
+        ready,
+        due,
+        penalty,
+        flags,
+    );
+    Evaluated::Answered(timed)
+}
+
+// A window of two finite numbers in order. It is never refused.
+pub fn time_window_new(ready: f64, due: f64) -> Window
+    ensures { λ a. ⌜ a ≡ public-time-window-new ready due ⌝ }
+{
+    TimeWindow::new(ready, due)
+}

@@ -1,0 +1,13 @@
+-- `places::demand_passes` meets its contract.
+use Rattle.problem_checks.proofs.AmountLaws.{demand-laws}
+use Rattle.problem_checks.proofs.places.demand_passes.Statement.{statement}
+use Rattle.problem_checks.proofs.places.demand_passes.Tie as tie
+
+returns : tie.Need-returns
+returns c = search demand-laws
+
+returns-2 : tie.Need-returns-2
+returns-2 c = search demand-laws
+
+pub demand-passes-spec : {M : Type 1} → statement M
+demand-passes-spec = tie.close (tie.spec returns returns-2)

@@ -1,0 +1,34 @@
+-- `of_replied` meets its contract. Assumes nothing.
+use borrow.Author.Needs.{needs}
+use Rattle.stored_answers.proofs.AnswerLaws.{arms}
+use Rattle.stored_answers.proofs.of_replied.Statement.{statement}
+use Rattle.stored_answers.proofs.of_replied.Tie as tie
+
+enum-known-answer : tie.Need-enum-known-answer
+enum-known-answer c = search needs
+
+of-refusal-requires : tie.Need-of-refusal-requires
+of-refusal-requires c κs = search needs
+
+enum-known-answer-2 : tie.Need-enum-known-answer-2
+enum-known-answer-2 c = search needs
+
+short-requires : tie.Need-short-requires
+short-requires c κs = search needs
+
+returns : tie.Need-returns
+returns c = search arms
+
+returns-2 : tie.Need-returns-2
+returns-2 c = search arms
+
+pub of-replied-spec : {M : Type 1} → statement M
+of-replied-spec =
+    tie.close
+    (tie.spec
+    enum-known-answer
+    of-refusal-requires
+    enum-known-answer-2
+    short-requires
+    returns
+    returns-2)

@@ -1,0 +1,3 @@
+-- Answers as they are stored.
+-- an answer, and whether two are the same
+pub mod Answers
