@@ -5,7 +5,7 @@ use mathlib.Core.Bool.{Bool, true, false, not, _&&_, true≢false, false≢true}
 use lib.Dec.{leb}
 use lib.IntN.{ℤ, pos, negsuc}
 use lib.Signed.{leZ}
-use lib.Ieee.{Float, nan, inf, fin, lt, le}
+use lib.Ieee.{Float, nan, inf, fin, lt, le, eq, ofBits}
 use mir.Syntax.{w32}
 use mir.Val.{SFits, toZ, ofZ}
 use mir.Facts.{toZ-ofZ}
@@ -50,7 +50,16 @@ module _ (x : Float) (finite : Bool) (f : finite ≡ is-finite x) where
       go (fin true m k) h i = absurd (true≢false i)
       go (fin false m k) h i = refl
 
-pub ruleset amount-laws = (amount-not-finite, amount-signed, amount-clear)
+-- above 0 it has its sign clear and is no NaN; an infinity is above 1e12
+pub amount-above : (x : Float) → lt 0f x ≡ true → le x 1e12 ≡ is-amount x
+unfolding is-amount lt le eq ofBits
+amount-above nan h = absurd (false≢true h)
+amount-above (inf true) h = absurd (false≢true h)
+amount-above (inf false) h = refl
+amount-above (fin true m k) h = absurd (false≢true h)
+amount-above (fin false m k) h = refl
+
+pub ruleset amount-laws = (amount-above, amount-not-finite, amount-signed, amount-clear)
 
 -- ---- a cost per distance
 

@@ -12,6 +12,9 @@ use models::vehicle::Vehicle;
 pub fn is_amount(x: f64) -> bool
     ensures { λ r. ⌜ r ≡ is-amount x ⌝ }
 {
+    if 0.0 < x {
+        return x <= 1e12; // the sign is clear, and x is no NaN
+    }
     if is_finite(x) {
         if is_sign_negative(x) {
             return false;

@@ -19,6 +19,9 @@ returns-2 c = search amount-laws
 returns-3 : tie.Need-returns-3
 returns-3 c = search amount-laws
 
+returns-4 : tie.Need-returns-4
+returns-4 c = search amount-laws
+
 pub is-amount-spec : {M : Type 1} → statement M
 is-amount-spec =
-    tie.close (tie.spec is-finite-requires is-sign-negative-requires returns returns-2 returns-3)
+    tie.close (tie.spec returns is-finite-requires is-sign-negative-requires returns-2 returns-3 returns-4)
