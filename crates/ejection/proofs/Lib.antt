@@ -1,5 +1,4 @@
 -- What the functions' proofs lean on.
-pub mod EveryLaws
 -- ranks, failures, the kept part
 pub mod EjectLaws
 -- the positions of what is kept

@@ -23,6 +23,8 @@ pub mod Sorts
 pub mod Firsts
 -- searches over a list that end at the first hit
 pub mod Searches
+-- a loop over numbers that ends at the first that fails its test
+pub mod Passed
 -- walks over stops that end at the first stop that cannot be served
 pub mod Walks
 -- cells of a square matrix

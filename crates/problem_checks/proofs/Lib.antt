@@ -3,5 +3,3 @@
 pub mod SizeLaws
 -- row 2
 pub mod AmountLaws
--- every cell of a slice, every place, every stop
-pub mod EveryLaws

@@ -10,7 +10,7 @@ use Rattle.models.specs.Problem.{matrix}
 use Rattle.local_search.specs.Route.{insertion-cost}
 use Rattle.ejection.specs.Eject.{chosen, outranks}
 use Rattle.ejection.specs.Pass.{none-outranks}
-use Rattle.ejection.proofs.EveryLaws.{Passed, passed-one, failed-one, every-laws}
+use Rattle.laws.specs.Passed.{Passed, passed-one, failed-one, every-laws}
 use Rattle.ejection.proofs.PositionLaws.{rank-told}
 use Rattle.ejection.proofs.search.none_outranks.Statement.{statement}
 use Rattle.ejection.proofs.search.none_outranks.Tie as tie

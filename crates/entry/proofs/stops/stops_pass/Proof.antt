@@ -3,7 +3,7 @@ use Prim.Native.Nat.{_-_}
 use mathlib.Core.List.{[]}
 use lib.ListN.{length, getD, take}
 use Rattle.evaluation.proofs.StopLaws.{part-laws}
-use Rattle.problem_checks.proofs.EveryLaws.{Passed, every-laws}
+use Rattle.laws.specs.Passed.{Passed, every-laws}
 use Rattle.models.specs.Problem.{of-distances}
 use Rattle.entry.specs.Table.{stop-passes, stops-pass}
 use Rattle.entry.proofs.stops.stops_pass.Statement.{statement}

@@ -2,7 +2,7 @@
 use Prim.Native.Nat.{_-_}
 use lib.ListN.{length, getD}
 use lib.Ieee.{nan}
-use Rattle.problem_checks.proofs.EveryLaws.{Passed, every-laws}
+use Rattle.laws.specs.Passed.{Passed, every-laws}
 use Rattle.models.specs.Valid.{is-amount}
 use Rattle.problem_checks.proofs.amounts.amounts_pass.Statement.{statement}
 use Rattle.problem_checks.proofs.amounts.amounts_pass.Tie as tie

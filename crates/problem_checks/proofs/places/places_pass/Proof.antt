@@ -2,7 +2,7 @@
 use Prim.Native.Nat.{_-_}
 use mathlib.Core.List.{[]}
 use lib.ListN.{length}
-use Rattle.problem_checks.proofs.EveryLaws.{Passed, every-laws}
+use Rattle.laws.specs.Passed.{Passed, every-laws}
 use Rattle.models.specs.Customer.{customers}
 use Rattle.models.specs.Valid.{place-passes}
 use Rattle.problem_checks.proofs.places.places_pass.Statement.{statement}
