@@ -116,7 +116,7 @@ pub fn route_eval(
         vehicle,
     );
     if r != 0 {
-        return Evaluated::Refused(r);
+        return Evaluated::Refused(r); // not evaluated
     }
     let worth = eval::route_eval(
         route,
@@ -170,7 +170,7 @@ pub fn effective_cost(
     let cost = eval::effective_cost(
         route,
         vehicle.depot_id,
-        RouteLimits::of(vehicle),
+        RouteLimits::of(vehicle), // over a limit a route costs infinity
         n,
         distances,
         times,
@@ -323,7 +323,7 @@ pub fn schedule(
         vehicle,
     );
     if r != 0 {
-        return Evaluated::Refused(r);
+        return Evaluated::Refused(r); // not scheduled
     }
     let timed = schedule::schedule(
         route,
