@@ -21,7 +21,11 @@ pub fn case(seed: u64) -> Case {
     }
     loop {
         let kind = random.below(damage::KINDS.len());
-        if let Some(sheet) = damage::KINDS[kind].1(&mut lines, &mut random) {
+        if let Some(mut sheet) = damage::KINDS[kind].1(&mut lines, &mut random) {
+            if sheet.text.len() > 60_000 {
+                // the length is judged first
+                sheet.planned = Some(10);
+            }
             return Case { damage: Some(kind), sheet };
         }
         // the sheet has no place for this damage
