@@ -121,11 +121,10 @@ impl Compared {
             self.refused[number as usize] += 1;
             return Some(number);
         }
-        let printed = listing(printed)?;
+        let features = features(text, printed)?;
         self.accepted += 1;
-        let sheet = form::read(text).ok()?;
-        for (count, feature) in self.features.iter_mut().zip(FEATURES) {
-            *count += feature.1(&sheet, &printed) as u64;
+        for (count, has) in self.features.iter_mut().zip(features) {
+            *count += has as u64;
         }
         Some(0)
     }
@@ -153,8 +152,15 @@ impl Compared {
     }
 }
 
+/// What an accepted sheet and its listing have, in the order of `FEATURES`; nothing where one of the two has not its form.
+pub fn features(text: &[u8], printed: &str) -> Option<[bool; FEATURES.len()]> {
+    let printed = listing(printed)?;
+    let sheet = form::read(text).ok()?;
+    Some(FEATURES.map(|feature| feature.1(&sheet, &printed)))
+}
+
 /// The row of a refusal line.
-fn refusal(printed: &str) -> Option<u8> {
+pub fn refusal(printed: &str) -> Option<u8> {
     let number = printed.strip_prefix("refused ")?.strip_suffix('\n')?;
     ROWS.iter().find(|row| row.to_string() == number).map(|&row| row as u8)
 }
