@@ -13,8 +13,11 @@ use crate::random::Random;
 /// The rows of the table that can refuse a sheet.
 pub const ROWS: [usize; 8] = [2, 3, 6, 7, 8, 10, 11, 12];
 
+/// Words, and a question about an accepted sheet and its listing.
+type Feature = (&'static str, fn(&Sheet, &Printed) -> bool);
+
 /// What an accepted sheet may have, and its listing.
-const FEATURES: [(&str, fn(&Sheet, &Printed) -> bool); 24] = [
+const FEATURES: [Feature; 24] = [
     ("a hard window", |s, _| s.problem.flags.contains(&WINDOW)),
     ("a soft window", |s, _| s.problem.flags.contains(&(WINDOW | PENALTY))),
     ("a penalty without a window", |s, _| s.problem.flags.contains(&PENALTY)),

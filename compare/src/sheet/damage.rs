@@ -53,6 +53,19 @@ pub const KINDS: &[(&str, Damage)] = &[
         *s.at(i, j) = over(64, r);
         made(s.join(), 12)
     }),
+    ("row 6: 64 stops, so one of them twice", |_, r| with_more_stops(r, 1, 6)),
+    ("row 12: 65 stops, in routes of a few", |_, r| with_more_stops(r, 2, 12)),
+    ("row 12: a length over its limit ends the text, or a space or line end is behind it", |s, r| {
+        let lengths = s.places(|part| part == Part::Length);
+        let (line, _) = lengths.get(r.below(lengths.len().max(1))).copied()?;
+        *s.at(line, 0) = over(64, r);
+        s.lines[line].truncate(1);
+        s.lines.truncate(line + 1);
+        let mut text = s.join();
+        text.pop();
+        text.extend_from_slice(r.pick(&["", " ", "\n"]).as_bytes());
+        made(text, 12)
+    }),
     ("row 12: a count over its limit ends the text, or a space is behind it", |s, r| {
         let section = r.pick(&["places", "draws", "routes"]);
         let count = over(1_024, r);
@@ -326,6 +339,18 @@ fn counted(sheet: &mut Lines, section: &str, count: &str, planned: u8) -> Option
 fn stretched(r: &mut Random, bytes: usize, planned: u8) -> Option<Damaged> {
     let mut sheet = large(r);
     sheet.stretch(bytes).then(|| made(sheet.join(), planned))?
+}
+
+/// A sheet of 63 stops with some of them once more.
+fn with_more_stops(r: &mut Random, more: usize, planned: u8) -> Option<Damaged> {
+    let mut sheet = large(r);
+    for _ in 0..more {
+        let (line, _) = r.pick(&sheet.places(|part| part == Part::Length));
+        let again = sheet.lines[line][1].clone();
+        sheet.lines[line].push(again);
+        *sheet.at(line, 0) = (sheet.lines[line].len() - 1).to_string();
+    }
+    made(sheet.join(), planned)
 }
 
 /// A count over a limit.
