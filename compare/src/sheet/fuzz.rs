@@ -32,15 +32,15 @@ pub fn run(time: Duration, seed: u64) -> bool {
     }
     compared.print_refused();
     println!("{left_out} left out: their steps would take too long");
-    if !port::PLANS_SHEETS {
-        println!("the port plans no sheets yet: nothing was compared with it");
-    }
     println!(
         "{} texts of seed {seed} in {:.0} s, {} differ",
         compared.sheets,
         began.elapsed().as_secs_f64(),
         compared.differ
     );
+    if !port::PLANS_SHEETS {
+        println!("the port plans no sheets yet: nothing was compared with it");
+    }
     compared.differ == 0 && port::PLANS_SHEETS
 }
 
