@@ -26,7 +26,7 @@ compare --fuzz-sheets MINUTES [SEED]
 compare --sheet-cases            prints sheets for the program sheet_cases, each after its number of bytes
 compare --sheet-listings         prints what the original prints for them
 compare --bench [NAME ..]        measures original and port, all benchmarks or those of these names
-compare --bench-once SIDE NAME   makes the calls of one benchmark on one side, original or port";
+compare --bench-once SIDE NAME   does the work of one benchmark on one side: original, checked or port";
 
 /// Runs the command that the words name, and returns its exit status.
 pub fn run(words: &[String]) -> i32 {
