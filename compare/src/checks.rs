@@ -1,17 +1,15 @@
 //! The entry checks, rows 1 to 9 of document 01's table in its order.
 
-use crate::problem::{Call, Plan, Problem, PENALTY, WINDOW};
+use crate::problem::{Break, Call, Plan, Problem, PENALTY, WINDOW};
 
 /// The first row of the table that applies to a call.
 pub fn refusal(problem: &Problem, plan: &Plan, call: &Call) -> Option<u8> {
-    if let Call::TimeWindowNew { .. } = call {
-        return None;
-    }
     let beside = match call {
-        Call::Schedule { rest, .. } => vec![rest.earliest, rest.latest, rest.duration],
-        _ => vec![],
+        Call::TimeWindowNew { .. } => return None,
+        Call::Schedule { rest, .. } => Some(rest),
+        _ => None,
     };
-    let refused = of_problem(problem, &beside);
+    let refused = of_problem(problem, beside);
     if refused.is_some() {
         return refused;
     }
@@ -35,8 +33,8 @@ fn first(rows: &[(u8, bool)]) -> Option<u8> {
     rows.iter().find(|row| row.1).map(|row| row.0)
 }
 
-/// Rows 1 to 4. `beside` are the floats that a call is given beside the problem.
-fn of_problem(p: &Problem, beside: &[f64]) -> Option<u8> {
+/// Rows 1 to 4. `beside` is the break that a call is given beside the problem.
+fn of_problem(p: &Problem, beside: Option<&Break>) -> Option<u8> {
     let n = p.places;
     if n == 0 || n > 256 {
         return Some(1);
@@ -58,7 +56,11 @@ fn good(value: f64) -> bool {
     value.is_finite() && value.is_sign_positive() && value <= 1e12
 }
 
-fn numbers_are_good(p: &Problem, beside: &[f64]) -> bool {
+fn break_is_good(rest: &Break) -> bool {
+    good(rest.earliest) && good(rest.latest) && good(rest.duration)
+}
+
+fn numbers_are_good(p: &Problem, beside: Option<&Break>) -> bool {
     for i in 0..p.places {
         let window = p.flags[i] & WINDOW == 0 || good(p.ready[i]) && good(p.due[i]);
         let penalty = p.flags[i] & PENALTY == 0 || good(p.penalty[i]);
@@ -68,15 +70,15 @@ fn numbers_are_good(p: &Problem, beside: &[f64]) -> bool {
         }
     }
     let v = &p.vehicle;
-    let mut floats = vec![v.fixed_cost, v.cost_per_distance];
-    floats.extend(v.max_distance);
-    floats.extend(v.max_duration);
-    if let Some(rest) = v.rest {
-        floats.extend([rest.earliest, rest.latest, rest.duration]);
-    }
-    let per_distance = v.cost_per_distance;
-    !(per_distance > 0.0 && per_distance < 1e-6)
-        && floats.iter().chain(beside).chain(&p.distances).chain(&p.times).all(|&value| good(value))
+    good(v.fixed_cost)
+        && good(v.cost_per_distance)
+        && !(v.cost_per_distance > 0.0 && v.cost_per_distance < 1e-6)
+        && v.max_distance.is_none_or(good)
+        && v.max_duration.is_none_or(good)
+        && v.rest.as_ref().is_none_or(break_is_good)
+        && beside.is_none_or(break_is_good)
+        && p.distances.iter().all(|&distance| good(distance))
+        && p.times.iter().all(|&time| good(time))
 }
 
 /// Rows 5 and 6 of a plan.
@@ -88,9 +90,9 @@ fn of_plan(problem: &Problem, plan: &Plan) -> Option<u8> {
     ])
 }
 
-/// Row 6: each stop is a place, not the depot, and present once.
+/// Row 6: each stop is a place, not the depot, and present once. Row 1 leaves at most 256 places.
 fn stops_are_good(problem: &Problem, stops: &[u16]) -> bool {
-    let mut seen = vec![false; problem.places];
+    let mut seen = [false; 256];
     for &stop in stops {
         let stop = stop as usize;
         if stop >= problem.places || stop == problem.vehicle.depot || seen[stop] {

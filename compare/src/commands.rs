@@ -1,13 +1,15 @@
-//! The commands: a run of the comparison, one case in full, cases with the original's answers, for people and for the program replay, and
-//! the benchmarks.
+//! The commands: a run of the comparison, one case in full, cases with the original's answers, for people and for the program replay, the
+//! same for sheets, and the benchmarks.
 
+use std::io::{self, Read, Write};
 use std::panic::{catch_unwind, AssertUnwindSafe};
+use std::time::Duration;
 
 use comparison::model::Model;
 use comparison::original::Original;
 use comparison::ported::Port;
 use comparison::problem::Side;
-use comparison::{answers, bench, cases, generate, replay, run, ORIGINAL};
+use comparison::{answers, bench, cases, generate, replay, run, sheet, ORIGINAL};
 
 const USAGE: &str = "compare [COUNT] [SEED]           compares COUNT calls (20000) of SEED (1)
 compare --case CASE [PLACES]     prints the case of that number with every side's answers
@@ -16,8 +18,15 @@ compare --answers N SEED [PLACES] [STEPS]
                                  and with at most STEPS steps (100) in a call
 compare --replay N SEED [PLACES] [STEPS]
                                  prints N such cases, the twelve and some for every row, for the program replay
+compare --sheet                  prints what the original prints for the sheet on standard input
+compare --sheets [COUNT] [SEED]  compares COUNT random sheets (5000) of SEED (1), and every edit of two small ones
+compare --sheet-case SHEET       prints the random sheet of that number
+compare --fuzz-sheets MINUTES [SEED]
+                                 compares random, cut, spliced and changed texts for so long
+compare --sheet-cases            prints sheets for the program sheet_cases, each after its number of bytes
+compare --sheet-listings         prints what the original prints for them
 compare --bench [NAME ..]        measures original and port, all benchmarks or those of these names
-compare --bench-once SIDE NAME   makes the calls of one benchmark on one side, original or port";
+compare --bench-once SIDE NAME   does the work of one benchmark on one side: original, checked or port";
 
 /// Runs the command that the words name, and returns its exit status.
 pub fn run(words: &[String]) -> i32 {
@@ -42,6 +51,15 @@ pub fn run(words: &[String]) -> i32 {
         ("--answers", [count, seed]) => print_answers(*count, *seed, 8, 100),
         ("--answers", [count, seed, places]) => print_answers(*count, *seed, *places as usize, 100),
         ("--answers", [count, seed, places, steps]) => print_answers(*count, *seed, *places as usize, *steps),
+        ("--sheet", []) => print_sheet(),
+        ("--sheets", []) => compare_sheets(5_000, 1),
+        ("--sheets", [count]) => compare_sheets(*count, 1),
+        ("--sheets", [count, seed]) => compare_sheets(*count, *seed),
+        ("--sheet-case", [seed]) => put(&sheet::case(*seed).sheet.text),
+        ("--fuzz-sheets", [minutes]) => fuzz_sheets(*minutes, 1),
+        ("--fuzz-sheets", [minutes, seed]) => fuzz_sheets(*minutes, *seed),
+        ("--sheet-cases", []) => put(&sheet::stored::input()),
+        ("--sheet-listings", []) => put(&sheet::stored::output()),
         ("--replay", [count, seed]) => print_replay(*count, *seed, 8, 100),
         ("--replay", [count, seed, places]) => print_replay(*count, *seed, *places as usize, 100),
         ("--replay", [count, seed, places, steps]) => print_replay(*count, *seed, *places as usize, *steps),
@@ -116,4 +134,34 @@ fn print_replay(count: u64, seed: u64, places: usize, steps: u64) -> i32 {
     }
     replay::print(&mut Original, count, seed, places, steps);
     0
+}
+
+/// Writes bytes to standard output.
+fn put(bytes: &[u8]) -> i32 {
+    match io::stdout().write_all(bytes) {
+        Ok(()) => 0,
+        Err(why) => {
+            eprintln!("compare: standard output: {why}");
+            2
+        }
+    }
+}
+
+/// Standard input is read to the first byte that makes a sheet too long.
+fn print_sheet() -> i32 {
+    let mut text = vec![];
+    if let Err(why) = io::stdin().take(60_001).read_to_end(&mut text) {
+        eprintln!("compare: standard input: {why}");
+        return 2;
+    }
+    put(&sheet::program::printed(&mut Original, &text))
+}
+
+fn compare_sheets(count: u64, seed: u64) -> i32 {
+    println!("the sheet program over the original in {ORIGINAL} against the port: {count} sheets, seed {seed}");
+    !sheet::run::run(count, seed) as i32
+}
+
+fn fuzz_sheets(minutes: u64, seed: u64) -> i32 {
+    !sheet::fuzz::run(Duration::from_secs(60 * minutes), seed) as i32
 }

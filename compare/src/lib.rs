@@ -26,6 +26,8 @@ pub mod problem;
 pub mod random;
 pub mod replay;
 pub mod run;
+#[cfg(original)]
+pub mod sheet;
 mod stand_ins;
 
 pub use stand_ins::{Deadline, Rng, RngExt, Tape};

@@ -95,6 +95,16 @@ impl<'a> Ready<'a> {
             Call::TimeWindowNew { .. } => unreachable!("it has no problem"),
         }
     }
+
+    /// Makes another call on the plan that the last one left: minimise or eliminate.
+    pub fn then(&mut self, call: &'a Call) -> Answer {
+        self.call = call;
+        self.make()
+    }
+
+    pub fn distance(&self, route: &[usize]) -> f64 {
+        route_distance(route, self.vehicle.depot_id(), &self.distances)
+    }
 }
 
 fn wide(route: &[u16]) -> Vec<usize> {

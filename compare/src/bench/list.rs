@@ -1,20 +1,24 @@
-//! The benchmarks by name: each is one call on one problem.
+//! The benchmarks by name: each is one call on one problem, or one sheet.
 
 use super::days::{day, long_route, Kind, Routes};
 use crate::problem::{Break, Call, Cells, Plan, Problem};
 use crate::random::Random;
 
-/// One call to be measured.
+/// What is measured.
 pub struct Bench {
     pub name: &'static str,
     pub about: &'static str,
     /// Whether it is one of those that differ in size only.
     pub grows: bool,
-    pub problem: Problem,
-    pub plan: Plan,
-    pub call: Call,
-    /// Whether the call is made many times in one measurement: it is short, and each time costs the same.
+    pub work: Work,
+    /// Whether it is made many times in one measurement: it is short, and each time costs the same.
     pub repeated: bool,
+}
+
+/// One call, or a sheet from bytes to bytes.
+pub enum Work {
+    Call { problem: Problem, plan: Plan, call: Call },
+    Sheet(&'static [u8]),
 }
 
 const CELLS: Cells = Cells { u16s: 8192, f64s: 2048, content: 1 };
@@ -35,9 +39,11 @@ enum Of {
     /// A question about the day with soft windows.
     Bound,
     Floor,
+    /// The day of examples/.
+    Sheet,
 }
 
-/// The benchmarks, the longest calls first. The sheet program's day has its place at the end.
+/// The benchmarks, in the order of the tables.
 const LIST: &[(&str, &str, Of)] = &[
     ("minimise-windows", "255 stops, 40 routes, windows, M 100", Of::Minimise(Kind::Windows, 255, 40, 100)),
     ("minimise-capacity", "255 stops, 40 routes, no windows, M 100", Of::Minimise(Kind::Capacity, 255, 40, 100)),
@@ -65,6 +71,7 @@ const LIST: &[(&str, &str, Of)] = &[
     ("question-distance", "route_distance, 50 stops of 256 places", Of::Distance(50, 256)),
     ("question-bound", "lateness_bound, 256 places", Of::Bound),
     ("question-floor", "gain_floor, 256 places, the first time", Of::Floor),
+    ("sheet-day", "examples/day.sheet, 41 places, 42 routes, M 300", Of::Sheet),
 ];
 
 /// The names that a word asks for: the one that it is, or all that begin with it and a '-'.
@@ -80,13 +87,13 @@ pub fn names() -> impl Iterator<Item = &'static str> {
 /// The benchmark of a name.
 pub fn bench(name: &str) -> Option<Bench> {
     let &(name, about, of) = LIST.iter().find(|entry| entry.0 == name)?;
-    let (problem, routes, call, repeated) = made(of);
+    let (work, repeated) = made(of);
     let grows = matches!(of, Of::Minimise(Kind::Windows, ..) | Of::Eliminate(Kind::Windows, ..));
-    Some(Bench { name, about, grows, problem, plan: Plan::of(&routes), call, repeated })
+    Some(Bench { name, about, grows, work, repeated })
 }
 
-fn made(of: Of) -> (Problem, Routes, Call, bool) {
-    match of {
+fn made(of: Of) -> (Work, bool) {
+    let (problem, routes, call, repeated) = match of {
         Of::Minimise(kind, stops, routes, limit) => {
             let (problem, routes) = day(kind, stops, routes);
             let mut random = Random::new(7);
@@ -109,7 +116,9 @@ fn made(of: Of) -> (Problem, Routes, Call, bool) {
         Of::Bound => (day(Kind::Soft, 255, 40).0, vec![], Call::LatenessBound, true),
         // the original keeps the largest distance of a matrix, so that a second call would cost it nothing
         Of::Floor => (day(Kind::Soft, 255, 40).0, vec![], Call::GainFloor, false),
-    }
+        Of::Sheet => return (Work::Sheet(include_bytes!("../../../examples/day.sheet")), false),
+    };
+    (Work::Call { problem, plan: Plan::of(&routes), call }, repeated)
 }
 
 /// A question about the first `count` stops of the long route.

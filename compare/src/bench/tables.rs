@@ -1,46 +1,73 @@
-//! The tables of the benchmarks, in Markdown.
+//! The tables of the benchmarks, in Markdown: the figures of docs/BENCHMARKS.md as they stand there.
 
+use super::list::Work;
 use super::Figures;
 use crate::problem::{Answer, Call};
 
-/// The head of the main table; its rows follow as they are measured.
-pub fn head() {
-    println!("| benchmark | call | instructions, original | port | ratio | time, original | port | ratio |");
-    println!("|---|---|--:|--:|--:|--:|--:|--:|");
+/// The heading of the table that a benchmark stands in.
+fn heading(figures: &Figures) -> &'static str {
+    match &figures.bench.work {
+        Work::Call { call, .. } if call.has_plan() => "Minimise and eliminate",
+        Work::Call { .. } => "Questions",
+        Work::Sheet(_) => "A sheet, from bytes to bytes",
+    }
 }
 
-pub fn row(figures: &Figures) {
+/// The row of a benchmark, with the head of its table where the one before stands in another.
+pub fn row(figures: &Figures, before: Option<&Figures>) {
     let Figures { bench, instructions, seconds, .. } = figures;
+    let sides = if seconds.len() == 3 { "original alone | with checks | port" } else { "original | port" };
+    if before.map(heading) != Some(heading(figures)) {
+        println!("{}### {}\n", if before.is_some() { "\n" } else { "" }, heading(figures));
+        println!("| benchmark | call | instructions, {sides} | ratio | time, {sides} | ratio |");
+        println!("|---|---|{}", "--:|".repeat(2 * seconds.len() + 2));
+    }
     let counted = match instructions {
-        Some([original, port]) => format!("{} | {} | {}", grouped(*original), grouped(*port), ratio(*original, *port)),
-        None => "- | - | -".to_string(),
+        Some(counts) => counted(counts),
+        None => vec!["-"; seconds.len() + 1].join(" | "),
     };
-    let [original, port] = *seconds;
-    let timed = format!("{} | {} | {}", span(original), span(port), digits(port / original));
+    let spans: Vec<String> = seconds.iter().map(|&seconds| span(seconds)).collect();
+    let timed = format!("{} | {}", spans.join(" | "), digits(last_to_other(seconds)));
     println!("| {} | {} | {counted} | {timed} |", bench.name, bench.about);
+}
+
+/// Instructions side by side, and their ratio.
+fn counted(counts: &[u64]) -> String {
+    let floats: Vec<f64> = counts.iter().map(|&count| count as f64).collect();
+    let counts: Vec<String> = counts.iter().map(|&count| grouped(count)).collect();
+    format!("{} | {}", counts.join(" | "), digits(last_to_other(&floats)))
+}
+
+/// The ratio of the last, which is the port's, to the one before it.
+fn last_to_other(values: &[f64]) -> f64 {
+    values[values.len() - 1] / values[values.len() - 2]
 }
 
 /// How instructions grow with the size of the call: minimise with windows by stops, routes and M, eliminate by stops.
 pub fn growth(all: &[Figures]) {
     let (mut minimised, mut eliminated) = (vec![], vec![]);
     for figures in all.iter().filter(|figures| figures.bench.grows) {
-        let Some([original, port]) = figures.instructions else {
+        let (Work::Call { plan, call, .. }, Some(counts)) = (&figures.bench.work, &figures.instructions) else {
             return;
         };
-        let (stops, routes) = (figures.bench.plan.stops.len(), figures.bench.plan.lengths.len());
-        let counts = format!("{} | {} | {}", grouped(original), grouped(port), ratio(original, port));
-        match (&figures.bench.call, &figures.answer) {
-            (Call::Minimise { limit, .. }, Answer::Minimised { steps, .. }) => {
-                let each = format!("{} | {}", grouped(original / steps), grouped(port / steps));
-                minimised.push((stops, routes, *limit, format!("{} | {counts} | {each}", grouped(*steps))));
+        let (stops, routes) = (plan.stops.len(), plan.lengths.len());
+        let instructions = counted(counts);
+        match (call, &figures.answer) {
+            (Call::Minimise { limit, .. }, Some(Answer::Minimised { steps, .. })) => {
+                let each: Vec<String> = counts.iter().map(|count| grouped(count / steps)).collect();
+                let rest = format!("{} | {instructions} | {}", grouped(*steps), each.join(" | "));
+                minimised.push((stops, routes, *limit, rest));
             }
-            (_, Answer::Eliminated { routes: left }) => eliminated.push((stops, format!("{left} | {counts}"))),
+            (_, Some(Answer::Eliminated { routes: left })) => {
+                eliminated.push((stops, format!("{left} | {instructions}")))
+            }
             _ => {}
         }
     }
     if minimised.len() > 1 {
         minimised.sort();
-        println!("\n| minimise: stops | routes | M | steps | instructions, original | port | ratio | a step, original | port |");
+        println!("\n### Growth of minimise with windows\n");
+        println!("| stops | routes | M | steps | instructions, original | port | ratio | a step, original | port |");
         println!("|--:|--:|--:|--:|--:|--:|--:|--:|--:|");
         for (stops, routes, limit, rest) in minimised {
             println!("| {stops} | {routes} | {limit} | {rest} |");
@@ -48,7 +75,8 @@ pub fn growth(all: &[Figures]) {
     }
     if eliminated.len() > 1 {
         eliminated.sort();
-        println!("\n| eliminate: stops, each a route | routes left | instructions, original | port | ratio |");
+        println!("\n### Growth of eliminate with hard windows\n");
+        println!("| stops, each a route | routes left | instructions, original | port | ratio |");
         println!("|--:|--:|--:|--:|--:|");
         for (stops, rest) in eliminated {
             println!("| {stops} | {rest} |");
@@ -56,16 +84,15 @@ pub fn growth(all: &[Figures]) {
     }
 }
 
-/// What the calls that change a plan did.
+/// What the work that changes a plan did.
 pub fn done(all: &[Figures]) {
-    println!();
-    for figures in all.iter().filter(|figures| figures.bench.call.has_plan()) {
+    let changes = |figures: &&Figures| !matches!(&figures.bench.work, Work::Call { call, .. } if !call.has_plan());
+    if all.iter().any(|figures| changes(&figures)) {
+        println!("\n### What was done\n");
+    }
+    for figures in all.iter().filter(changes) {
         println!("- {}: {}.", figures.bench.name, figures.did);
     }
-}
-
-fn ratio(original: u64, port: u64) -> String {
-    digits(port as f64 / original as f64)
 }
 
 /// A ratio with three digits, or all before the point.

@@ -45,7 +45,7 @@ impl Maker {
         }
     }
 
-    fn minimise(&mut self, problem: &Problem, plan: &Plan, model: &mut Model) -> Call {
+    pub(super) fn minimise(&mut self, problem: &Problem, plan: &Plan, model: &mut Model) -> Call {
         let large = problem.places > 40;
         let limit = match self.random.below(100) {
             0..=13 if two_short(plan) => 65_535,

@@ -8,10 +8,12 @@ mod damage;
 mod edges;
 mod numbers;
 mod problems;
+mod whole;
 
 use crate::problem::{Call, Plan, Problem};
 use crate::random::Random;
 use numbers::Scale;
+pub use whole::whole;
 
 /// A call with the number that it must be refused with, or none where it must be accepted.
 pub struct Asked {
