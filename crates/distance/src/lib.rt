@@ -1,10 +1,12 @@
 // The distance matrix: n by n cells, row by row, and travel times likewise or none (distance/matrix.rs).
 ghost use mathlib.Core.Path.{_≡_};
+ghost use mathlib.Core.Bool.{false};
 ghost use Prim.Native.Nat.{_<_, _≤_, _*_};
+ghost use lib.Ieee.{isNan};
 ghost use lib.ListN.{length};
+ghost use Rattle.floats.specs.Binary64.{max};
 ghost use Rattle.models.specs.Problem.{matrix, Square};
 ghost use Rattle.distance.specs.Matrix.{cell, travel-time, largest};
-use floats::max;
 
 // The cell from one place to another. Every place on a checked problem lies in the matrix, so no cell is ever out of it.
 pub fn get(cells: &[f64], n: usize, from: usize, to: usize) -> f64
@@ -27,6 +29,14 @@ pub fn travel_time(distances: &[f64], times: &[f64], n: usize, from: usize, to: 
     }
 }
 
+// The larger of a number and the next: `floats::max` where the first is no NaN, by one comparison.
+fn larger(most: f64, x: f64) -> f64
+    requires { ⌜ isNan most ≡ false ⌝ }
+    ensures { λ r. ⌜ r ≡ max most x ⌝ }
+{
+    if x >= most { x } else { most }
+}
+
 // The largest of some numbers, 0 where none is above it.
 pub fn largest(xs: &[f64]) -> f64
     ensures { λ r. ⌜ r ≡ largest (now (xs .entry)) ⌝ }
@@ -34,7 +44,7 @@ pub fn largest(xs: &[f64]) -> f64
     let mut most = 0.0;
     let mut i = 0;
     while i < xs.len() {
-        most = max(most, xs[i]);
+        most = larger(most, xs[i]);
         i += 1;
     }
     most

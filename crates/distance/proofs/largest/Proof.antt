@@ -15,14 +15,14 @@ abbrev μ-loop : tie.MeasureT-loop
 loop-holds : tie.Need-loop-holds Inv-loop μ-loop
 loop-holds c = search seen-laws
 
-mul-max : tie.Need-mul-max Inv-loop μ-loop
-mul-max c = search needs
+mul-larger : tie.Need-mul-larger Inv-loop μ-loop
+mul-larger c = search needs
 
-shared-slice-read-max : tie.Need-shared-slice-read-max Inv-loop μ-loop
-shared-slice-read-max c = search needs
+shared-slice-read-larger : tie.Need-shared-slice-read-larger Inv-loop μ-loop
+shared-slice-read-larger c = search needs
 
-max-requires : tie.Need-max-requires Inv-loop μ-loop
-max-requires c κs = search needs
+larger-requires : tie.Need-larger-requires Inv-loop μ-loop
+larger-requires c κs = search needs
 
 add-i : tie.Need-add-i Inv-loop μ-loop
 add-i c = search needs
@@ -43,9 +43,9 @@ largest-spec =
     Inv-loop
     μ-loop
     loop-holds
-    mul-max
-    shared-slice-read-max
-    max-requires
+    mul-larger
+    shared-slice-read-larger
+    larger-requires
     add-i
     loop-less
     loop-again
