@@ -1,0 +1,26 @@
+-- What some sheets print, by computation from the definitions. Assumes nothing.
+use mathlib.Core.Path.{_≡_, refl}
+use Rattle.sheet_text.specs.Text.{bytes}
+use Rattle.sheet_format.specs.Opened.{opened as form}
+use Rattle.listing.specs.Listing.{opened as lines}
+use Rattle.planner.specs.Opened.{opened as calls}
+use Rattle.sheet_planner.specs.Printed.{minimised, eliminated, planned, printed}
+
+-- Every definition, for a theorem that is computed: `unfolding opened`.
+unfoldable pub opened : Unit {0}
+unfolding form lines calls minimised eliminated planned printed
+opened = tt
+
+-- document 01's sheet
+sample-prints
+    : printed
+      (bytes
+      "vehicle 1\n10 0 0 1 - -\nplaces 3\n0 0 - - -\n4 0 - - -\n5 0 - - -\ndistances 3\n0 10 10\n10 0 5\n10 5 0\ntimes 0\nbreak 0\ndraws 1\n7\nroutes 2\n1 1\n1 2\nrun 1\n5 5\n")
+    ≡ bytes "routes 1\n1 9 25 1 2\nsteps 2 draws 0 given 2 left 1\n"
+unfolding opened
+sample-prints = refl
+
+-- no bytes are no sheet
+nothing-prints : printed (bytes "") ≡ bytes "refused 11\n"
+unfolding opened
+nothing-prints = refl

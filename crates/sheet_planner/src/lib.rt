@@ -1,0 +1,1 @@
+// A sheet from bytes to bytes: read, minimised, eliminated, listed.
