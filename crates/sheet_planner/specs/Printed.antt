@@ -7,7 +7,7 @@ use Rattle.entry.specs.Table.{Work}
 use Rattle.sheet_text.specs.Text.{Reading, refused, got}
 use Rattle.sheet_format.specs.Form.{Sheet, sheet, given}
 use Rattle.listing.specs.Listing.{listing, refusal-line}
-use Rattle.planner.specs.Calls.{Answer, answered, Reply, plan-in, public-minimise, public-eliminate} 
+use Rattle.planner.specs.Calls.{Answer, answered, Reply, plan-in, public-minimise, public-eliminate}
 use Rattle.planner.specs.Calls.{refused as refused-with}
 
 -- the work cells that both calls are lent: the least that row 9 leaves

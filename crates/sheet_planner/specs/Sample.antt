@@ -14,8 +14,8 @@ opened = tt
 -- document 01's sheet
 sample-prints
     : printed
-      (bytes
-      "vehicle 1\n10 0 0 1 - -\nplaces 3\n0 0 - - -\n4 0 - - -\n5 0 - - -\ndistances 3\n0 10 10\n10 0 5\n10 5 0\ntimes 0\nbreak 0\ndraws 1\n7\nroutes 2\n1 1\n1 2\nrun 1\n5 5\n")
+    (bytes
+    "vehicle 1\n10 0 0 1 - -\nplaces 3\n0 0 - - -\n4 0 - - -\n5 0 - - -\ndistances 3\n0 10 10\n10 0 5\n10 5 0\ntimes 0\nbreak 0\ndraws 1\n7\nroutes 2\n1 1\n1 2\nrun 1\n5 5\n")
     ≡ bytes "routes 1\n1 9 25 1 2\nsteps 2 draws 0 given 2 left 1\n"
 unfolding opened
 sample-prints = refl
