@@ -2,40 +2,39 @@
 use Prim.Native.Nat.{ℕ}
 use mathlib.Core.List.{List}
 use lib.ListN.{take}
+use Rattle.models.specs.Problem.{Problem}
+use Rattle.plan.specs.Plan.{Slices}
+use Rattle.local_search.specs.declared.rounds.Counts.{Counts}
 use Rattle.local_search.specs.declared.rounds.Reduction.{Reduction}
+use Rattle.ejection_pool.specs.Running.{allowance}
 use Rattle.entry.specs.Table.{Work}
+use Rattle.planner.specs.Calls.{Answer, refused as refused-with, answered, plan-in, public-minimise, public-eliminate}
 use Rattle.sheet_text.specs.Text.{Reading, refused, got}
 use Rattle.sheet_format.specs.Form.{Sheet, sheet, given}
 use Rattle.listing.specs.Listing.{listing, refusal-line}
-use Rattle.planner.specs.Calls.{Answer, answered, Reply, plan-in, public-minimise, public-eliminate}
-use Rattle.planner.specs.Calls.{refused as refused-with}
 
 -- the work cells that both calls are lent: the least that row 9 leaves
-abbrev pub lent : Work
-lent = record { u16-cells = 8192; f64-cells = 2048 }
+abbrev pub work : Work
+work = record { u16-cells = 8192; f64-cells = 2048 }
 
--- minimise on the sheet's plan, with its tape, M and K
-unfoldable pub minimised : Sheet → Reply
-minimised x = public-minimise (x .problem) (x .plan) (record { limit = x .run .limit; clock = x .run .clock; tape = x .tape }) lent
-
--- "A refusal prints one line"
+-- "A refusal prints one line", an answer what f makes of it
 abbrev pub unless-refused : Answer Reduction → (Reduction → List ℕ) → List ℕ
 unless-refused (refused-with n) f = refusal-line n
 unless-refused (answered d) f = f d
 
--- Eliminate on both slices as minimise left them, and the listing of its answer, "the first r lengths". Steps and draws are minimise's.
--- (After an accepted minimise it is not refused: `eliminate-follows`.)
-unfoldable pub eliminated : Sheet → Reply → Reduction → List ℕ
-eliminated x m d =
-    let e = public-eliminate (x .problem) (m .slices) lent in
-    unless-refused (e .answer) (λ r. listing (x .problem) (take (r .routes) (plan-in (e .slices))) (d .counts) (given x))
+-- Eliminate, and the listing of what it leaves: "the first r lengths are the answer". The counts are those of the call before it.
+unfoldable pub eliminated : Problem → Slices → Counts → ℕ → List ℕ
+eliminated p s counts given =
+    let e = public-eliminate p s work in
+    unless-refused (e .answer) (λ d. listing p (take (d .routes) (plan-in (e .slices))) counts given)
 
--- what a sheet of the form prints
+-- Minimise with the sheet's tape, M and K, then eliminate on both slices as minimise left them.
 unfoldable pub planned : Sheet → List ℕ
 planned x =
-    let m = minimised x in
-    unless-refused (m .answer) (λ d. eliminated x m d)
+    let m = public-minimise (x .problem) (x .plan) (allowance (x .run .limit) (x .run .clock) (x .tape)) work in
+    unless-refused (m .answer) (λ d. eliminated (x .problem) (m .slices) (d .counts) (given x))
 
+-- what was read prints, or the number of the refusal
 abbrev pub printed-of : Reading Sheet → List ℕ
 printed-of (refused n) = refusal-line n
 printed-of (got x at) = planned x
