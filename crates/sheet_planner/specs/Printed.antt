@@ -34,6 +34,10 @@ planned x =
     let m = public-minimise (x .problem) (x .plan) (allowance (x .run .limit) (x .run .clock) (x .tape)) work in
     unless-refused (m .answer) (λ d. eliminated (x .problem) (m .slices) (d .counts) (given x))
 
+-- a sheet of its parts
+abbrev pub sheet-of : Problem → Slices → List ℕ → (limit clock : ℕ) → Sheet
+sheet-of p plan tape limit clock = record { problem = p; plan = plan; tape = tape; run = record { limit = limit; clock = clock } }
+
 -- what was read prints, or the number of the refusal
 abbrev pub printed-of : Reading Sheet → List ℕ
 printed-of (refused n) = refusal-line n

@@ -1,0 +1,3 @@
+pub mod Stub
+-- the two calls of a sheet, and what is listed
+pub mod ListedLaws
