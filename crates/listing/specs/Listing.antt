@@ -4,7 +4,8 @@ use mathlib.Core.Path.{_≡_, refl}
 use mathlib.Core.List.{List, [], _∷_, _++_}
 use lib.ListN.{length}
 use lib.IntN.{ℤ, pos, negsuc}
-use lib.Ieee.{Float, add, ofInt, toUnsigned}
+use lib.Dec.{T}
+use lib.Ieee.{Float, binary64, add, ofInt, inUnsigned, toUnsigned}
 use Rattle.floats.specs.Whole.{nat}
 use Rattle.models.specs.declared.vehicle.Limit.the-variants.{None as NoLimit}
 use Rattle.models.specs.declared.vehicle.Rest.the-variants.{None as NoRest}
@@ -22,6 +23,14 @@ use Rattle.listing.specs.Decimal.{text, digits, decimal, signed}
 abbrev pub whole : Float → ℕ
 whole x = toUnsigned 64 x
 
+-- a route whose distance is in the range of a u64, as the cast asks (`distance-prints`, sheet_laws)
+pub record Prints (p : Problem) (route : List ℕ) : Type 0 where
+  pub castable : T (inUnsigned binary64 64 (route-distance (p .roads) (depot p) route))
+
+-- a problem of the parts that a listing reads (`listing-reads`)
+abbrev pub of-listing : ℕ → List ℤ → List Float → Vehicle → Problem
+of-listing n demand distances vehicle = problem n demand [] [] [] [] [] distances [] vehicle
+
 -- a stop behind a space
 unfoldable pub stop : ℕ → List ℕ
 stop c = text (bytes " " ∷ decimal c ∷ [])
@@ -34,11 +43,14 @@ stops (c ∷ cs) = stop c ++ stops cs
 unfoldable pub route-line : ℕ → ℤ → ℕ → List ℕ → List ℕ
 route-line number load distance route = text (decimal number ∷ bytes " " ∷ signed load ∷ bytes " " ∷ decimal distance ∷ stops route ∷ bytes "\n" ∷ [])
 
+-- the line of a route of a problem
+abbrev pub line-of : Problem → ℕ → List ℕ → List ℕ
+line-of p number r = route-line number (load (p .demand) r) (whole (route-distance (p .roads) (depot p) r)) r
+
 -- the lines of routes from some number on
 unfoldable pub route-lines : Problem → ℕ → Plan → List ℕ
 route-lines p number [] = []
-route-lines p number (r ∷ rs) =
-    text (route-line number (load (p .demand) r) (whole (route-distance (p .roads) (depot p) r)) r ∷ route-lines p (suc number) rs ∷ [])
+route-lines p number (r ∷ rs) = text (line-of p number r ∷ route-lines p (suc number) rs ∷ [])
 
 -- "routes 1"
 unfoldable pub first-line : ℕ → List ℕ
