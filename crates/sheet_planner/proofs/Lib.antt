@@ -1,3 +1,2 @@
-pub mod Stub
 -- the two calls of a sheet, and what is listed
 pub mod ListedLaws

@@ -19,6 +19,7 @@ use Rattle.local_search.specs.declared.rounds.Reduction.{Reduction}
 use Rattle.local_search.specs.Rounds.{Result}
 use Rattle.route_elimination.specs.Eliminate.{eliminate-routes}
 use Rattle.route_elimination.specs.Eliminated.{eliminate-keeps}
+use Rattle.ejection_pool.specs.Running.{allowance}
 use Rattle.entry.specs.Table.{too-few, table, first-applying, refusal}
 use Rattle.entry.specs.Given.{entry, eliminate-inputs}
 use Rattle.entry.proofs.EntryLaws.{own-rows}
@@ -30,13 +31,13 @@ use Rattle.planner.specs.declared.calls.Replied.the-variants.{Refused as NotRep
 use Rattle.planner.specs.Told.{slices-of, work-of, reply-of}
 use Rattle.planner.proofs.Demand3.{demand-3}
 use Rattle.sheet_text.proofs.ReadLaws.{told}
-use Rattle.listing.specs.Listing.{listing, refusal-line}
+use Rattle.listing.specs.Listing.{of-listing, Prints, listing, refusal-line}
 use Rattle.listing.specs.Written.{Room, Written}
+use Rattle.listing.proofs.ReadLaws.{read, listing-reads}
+use Rattle.listing.proofs.BoundLaws.{listing-fits, refusal-fits}
 use Rattle.sheet_laws.specs.Short.{Short}
 use Rattle.sheet_laws.proofs.Distances.{distance-prints}
-use Rattle.sheet_planner.specs.Printed.{work, eliminated}
-use Rattle.sheet_planner.specs.Stub.{of-listing, Prints}
-use Rattle.sheet_planner.proofs.Stub.{listing-reads, listing-short}
+use Rattle.sheet_planner.specs.Printed.{work, eliminated, planned, sheet-of}
 
 -- ---- an accepted call
 
@@ -122,6 +123,10 @@ stops-print n demand distances v h home route s =
 pub written-as : {out x y after : List ℕ} {r : ℕ} → Written out 0 x after r → x ≡ y → Written out 0 y after r
 written-as {out} {x} {y} {after} {r} w e = subst (λ (z : List ℕ). Written out 0 z after r) e w
 
+-- every refusal has room
+pub refusal-room : (out : List ℕ) (k : ℕ) → 6000 ≤ length out → Room out 0 (refusal-line k)
+refusal-room out k h = record { fits = omega (arith, refusal-fits k) }
+
 -- ---- eliminate, in code: its answer a, the slices after it, and the numbers of work cells
 
 module _
@@ -152,11 +157,7 @@ module _
       abbrev routes : Plan
       routes = take (d .routes) (split lengths stops)
 
-      -- the problem of which the listing reads
-      abbrev reads : Problem
-      reads = of-listing (p .roads .size) (p .demand) (p .roads .distances) (p .vehicle)
-
-      pub eliminate-lists : listing reads routes counts given ≡ eliminated p s counts given
+      pub eliminate-lists : listing (read p) routes counts given ≡ eliminated p s counts given
       unfolding eliminated
       eliminate-lists = sym (listing-reads p routes counts given) ∙ rw (← answers)
 
@@ -168,19 +169,48 @@ module _
 
         -- what the writer of a listing asks for
         pub eliminate-asks
-            : Room out 0 (listing reads routes counts given)
-            × ((p .roads .size ≤ 256) × (length (p .roads .distances) ≡ p .roads .size * p .roads .size))
-            × ((depot p < p .roads .size) × Demands (p .roads .size) (p .demand) × Lent lengths stops × (d .routes ≤ length lengths))
-            × (All (Stops (p .roads .size)) routes × All (Prints reads) routes)
+            : Room out 0 (listing (read p) routes counts given)
+            × (((p .roads .size ≤ 256) × (length (p .roads .distances) ≡ p .roads .size * p .roads .size))
+            × (((depot p < p .roads .size) × Demands (p .roads .size) (p .demand) × Lent lengths stops × (d .routes ≤ length lengths))
+            × (All (Stops (p .roads .size)) routes × All (Prints (read p)) routes)))
         eliminate-asks =
             let b = accepted in
             let inside = all-take (d .routes) (planned-stops (p .roads .size) (split lengths stops) (b .planned)) in
             let few : length routes ≤ 64 = omega (arith, length-take (d .routes) (split lengths stops), length-split lengths stops, few-lengths) in
             let in-all : length (flat routes) ≤ 64 = omega (arith, flat-take (d .routes) (split lengths stops), ap length (flat-split-all lengths stops (b .sum)), few-stops) in
-            (record { fits = omega (arith, listing-short reads routes counts given few in-all, room) },
-            (b .admitted .fit .square .few, b .admitted .fit .square .distance-cells),
-            (b .admitted .depot-in,
+            (record { fits = omega (arith, listing-fits (read p) routes counts given few in-all, room) },
+            ((b .admitted .fit .square .few, b .admitted .fit .square .distance-cells),
+            ((b .admitted .depot-in,
             b .admitted .demands,
             record { inside = omega (arith, b .sum); few = omega (arith, few-stops) },
             omega (arith, few-routes p s d (slices-of lengths stops) answers, same)),
-            (inside, all-map (λ r q. stops-print (p .roads .size) (p .demand) (p .roads .distances) (p .vehicle) short (b .admitted .depot-in) r q) inside))
+            (inside, all-map (λ r q. stops-print (p .roads .size) (p .demand) (p .roads .distances) (p .vehicle) short (b .admitted .depot-in) r q) inside))))
+
+-- ---- minimise, in code
+
+module _
+    (p : Problem)
+    (plan : Slices)
+    (tape : List ℕ)
+    (limit clock : ℕ)
+    (a : Replied)
+    (lengths stops : List ℕ)
+    (small wide : ℕ)
+    (e : reply-of a lengths stops ≡ public-minimise p plan (allowance limit clock tape) (work-of small wide))
+    (h : small ≡ 8192)
+    (g : wide ≡ 2048)
+    where
+  lent-first : reply-of a lengths stops ≡ public-minimise p plan (allowance limit clock tape) work
+  lent-first = rw (h, g) at e
+
+  pub minimise-refuses : (k : ℕ) → a ≡ NotReplied k → refusal-line k ≡ planned (sheet-of p plan tape limit clock)
+  unfolding planned
+  minimise-refuses k f =
+      let r : record { answer = refused k; slices = slices-of lengths stops } ≡ public-minimise p plan (allowance limit clock tape) work = told (λ (b : Replied). reply-of b lengths stops) f lent-first in
+      rw (← r)
+
+  pub minimise-goes-on : (d : Reduction) → a ≡ RepliedAs d → eliminated p (slices-of lengths stops) (d .counts) (length (plan .lengths)) ≡ planned (sheet-of p plan tape limit clock)
+  unfolding planned
+  minimise-goes-on d f =
+      let r : said d (slices-of lengths stops) ≡ public-minimise p plan (allowance limit clock tape) work = told (λ (b : Replied). reply-of b lengths stops) f lent-first in
+      rw (← r)

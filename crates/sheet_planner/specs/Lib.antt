@@ -4,4 +4,3 @@ pub mod Printed
 pub mod Output
 -- the sample's listing, and refusals, by computation
 pub mod Sample
-pub mod Stub

@@ -1,6 +1,7 @@
 -- What some sheets print, by computation from the definitions. Assumes nothing.
 use mathlib.Core.Path.{_≡_, refl}
 use Rattle.sheet_text.specs.Text.{bytes}
+use Rattle.sheet_format.specs.Sample.{sample}
 use Rattle.sheet_format.specs.Opened.{opened as form}
 use Rattle.listing.specs.Listing.{opened as lines}
 use Rattle.planner.specs.Opened.{opened as calls}
@@ -12,12 +13,8 @@ unfolding form lines calls eliminated planned printed
 opened = tt
 
 -- document 01's sheet
-sample-prints
-    : printed
-    (bytes
-    "vehicle 1\n10 0 0 1 - -\nplaces 3\n0 0 - - -\n4 0 - - -\n5 0 - - -\ndistances 3\n0 10 10\n10 0 5\n10 5 0\ntimes 0\nbreak 0\ndraws 1\n7\nroutes 2\n1 1\n1 2\nrun 1\n5 5\n")
-    ≡ bytes "routes 1\n1 9 25 1 2\nsteps 2 draws 0 given 2 left 1\n"
-unfolding opened
+sample-prints : printed sample ≡ bytes "routes 1\n1 9 25 1 2\nsteps 2 draws 0 given 2 left 1\n"
+unfolding opened sample
 sample-prints = refl
 
 -- no bytes are no sheet

@@ -4,7 +4,6 @@ ghost use Rattle.sheet_planner.specs.Output.{output, into};
 ghost use Rattle.sheet_planner.specs.Printed.{printed};
 
 mod arrays;
-mod standin;
 mod steps;
 
 use steps::listed;
