@@ -30,14 +30,16 @@ use Rattle.planner.specs.declared.calls.Replied.{Replied}
 use Rattle.planner.specs.declared.calls.Replied.the-variants.{Refused as NotReplied, Answered as RepliedAs}
 use Rattle.planner.specs.Told.{slices-of, work-of, reply-of}
 use Rattle.planner.proofs.Demand3.{demand-3}
+use Rattle.sheet_text.specs.Text.{refused as refused-reading, got}
 use Rattle.sheet_text.proofs.ReadLaws.{told}
+use Rattle.sheet_format.specs.Form.{Sheet, sheet}
 use Rattle.listing.specs.Listing.{of-listing, Prints, listing, refusal-line}
 use Rattle.listing.specs.Written.{Room, Written}
 use Rattle.listing.proofs.ReadLaws.{read, listing-reads}
 use Rattle.listing.proofs.BoundLaws.{listing-fits, refusal-fits}
 use Rattle.sheet_laws.specs.Short.{Short}
 use Rattle.sheet_laws.proofs.Distances.{distance-prints}
-use Rattle.sheet_planner.specs.Printed.{work, eliminated, planned, sheet-of}
+use Rattle.sheet_planner.specs.Printed.{work, eliminated, planned, sheet-of, printed}
 
 -- ---- an accepted call
 
@@ -214,3 +216,14 @@ module _
   minimise-goes-on d f =
       let r : said d (slices-of lengths stops) ≡ public-minimise p plan (allowance limit clock tape) work = told (λ (b : Replied). reply-of b lengths stops) f lent-first in
       rw (← r)
+
+-- ---- the reader, in code
+
+module _ (s : List ℕ) where
+  pub reader-refuses : (k : ℕ) → refused-reading k ≡ sheet s 0 → refusal-line k ≡ printed s
+  unfolding printed
+  reader-refuses k e = rw (← e)
+
+  pub reader-goes-on : (x : Sheet) (i : ℕ) → got x i ≡ sheet s 0 → planned x ≡ printed s
+  unfolding printed
+  reader-goes-on x i e = rw (← e)
