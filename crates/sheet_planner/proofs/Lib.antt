@@ -1,2 +1,4 @@
 -- the two calls of a sheet, and what is listed
 pub mod ListedLaws
+-- a text in the slice that is lent
+pub mod OutputLaws

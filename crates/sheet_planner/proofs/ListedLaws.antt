@@ -140,53 +140,60 @@ module _
     (e : reply-of a lengths stops ≡ public-eliminate p s (work-of small wide))
     (h : small ≡ 8192)
     (g : wide ≡ 2048)
-    where
-  lent : reply-of a lengths stops ≡ public-eliminate p s work
-  lent = rw (h, g) at e
+  where
+    lent : reply-of a lengths stops ≡ public-eliminate p s work
+    lent = rw (h, g) at e
 
-  module _ (counts : Counts) (given : ℕ) where
-    pub eliminate-refuses : (k : ℕ) → a ≡ NotReplied k → refusal-line k ≡ eliminated p s counts given
-    unfolding eliminated
-    eliminate-refuses k f =
-        let r : record { answer = refused k; slices = slices-of lengths stops } ≡ public-eliminate p s work = told (λ (b : Replied). reply-of b lengths stops) f lent in
-        rw (← r)
-
-    module _ (d : Reduction) (f : a ≡ RepliedAs d) where
-      answers : said d (slices-of lengths stops) ≡ public-eliminate p s work
-      answers = told (λ (b : Replied). reply-of b lengths stops) f lent
-
-      -- the routes that are listed
-      abbrev routes : Plan
-      routes = take (d .routes) (split lengths stops)
-
-      pub eliminate-lists : listing (read p) routes counts given ≡ eliminated p s counts given
+    module _ (counts : Counts) (given : ℕ) where
+      pub eliminate-refuses : (k : ℕ) → a ≡ NotReplied k → refusal-line k ≡ eliminated p s counts given
       unfolding eliminated
-      eliminate-lists = sym (listing-reads p routes counts given) ∙ rw (← answers)
+      eliminate-refuses k f =
+          let r : record { answer = refused k; slices = slices-of lengths stops } ≡ public-eliminate p s work = told (λ (b : Replied). reply-of b lengths stops) f lent in
+          rw (← r)
 
-      module _ (short : Short (p .roads .size) (p .roads .distances)) (few-lengths : length lengths ≤ 64) (few-stops : length stops ≤ 64)
-          (same : length lengths ≡ length (s .lengths)) (out : List ℕ) (room : 6000 ≤ length out) where
-        accepted : Accepted p (slices-of lengths stops)
-        unfolding call
-        accepted = eliminate-accepted p (slices-of lengths stops) work (own-none p (slices-of lengths stops) (entry-passed-after p s (eliminate work) d (slices-of lengths stops) answers)) .0
+      module _ (d : Reduction) (f : a ≡ RepliedAs d) where
+        answers : said d (slices-of lengths stops) ≡ public-eliminate p s work
+        answers = told (λ (b : Replied). reply-of b lengths stops) f lent
 
-        -- what the writer of a listing asks for
-        pub eliminate-asks
-            : Room out 0 (listing (read p) routes counts given)
-            × (((p .roads .size ≤ 256) × (length (p .roads .distances) ≡ p .roads .size * p .roads .size))
-            × (((depot p < p .roads .size) × Demands (p .roads .size) (p .demand) × Lent lengths stops × (d .routes ≤ length lengths))
-            × (All (Stops (p .roads .size)) routes × All (Prints (read p)) routes)))
-        eliminate-asks =
-            let b = accepted in
-            let inside = all-take (d .routes) (planned-stops (p .roads .size) (split lengths stops) (b .planned)) in
-            let few : length routes ≤ 64 = omega (arith, length-take (d .routes) (split lengths stops), length-split lengths stops, few-lengths) in
-            let in-all : length (flat routes) ≤ 64 = omega (arith, flat-take (d .routes) (split lengths stops), ap length (flat-split-all lengths stops (b .sum)), few-stops) in
-            (record { fits = omega (arith, listing-fits (read p) routes counts given few in-all, room) },
-            ((b .admitted .fit .square .few, b .admitted .fit .square .distance-cells),
-            ((b .admitted .depot-in,
-            b .admitted .demands,
-            record { inside = omega (arith, b .sum); few = omega (arith, few-stops) },
-            omega (arith, few-routes p s d (slices-of lengths stops) answers, same)),
-            (inside, all-map (λ r q. stops-print (p .roads .size) (p .demand) (p .roads .distances) (p .vehicle) short (b .admitted .depot-in) r q) inside))))
+        -- the routes that are listed
+        abbrev routes : Plan
+        routes = take (d .routes) (split lengths stops)
+
+        pub eliminate-lists : listing (read p) routes counts given ≡ eliminated p s counts given
+        unfolding eliminated
+        eliminate-lists = sym (listing-reads p routes counts given) ∙ rw (← answers)
+
+        module _ (short : Short (p .roads .size) (p .roads .distances)) (few-lengths : length lengths ≤ 64) (few-stops : length stops ≤ 64)
+            (same : length lengths ≡ length (s .lengths)) (out : List ℕ) (room : 6000 ≤ length out) where
+          accepted : Accepted p (slices-of lengths stops)
+          unfolding call
+          accepted = eliminate-accepted p (slices-of lengths stops) work (own-none p (slices-of lengths stops) (entry-passed-after p s (eliminate work) d (slices-of lengths stops) answers)) .0
+
+          -- what the writer of a listing asks for
+          pub eliminate-asks
+              : Room out 0 (listing (read p) routes counts given)
+              × (((p .roads .size ≤ 256) × (length (p .roads .distances) ≡ p .roads .size * p .roads .size))
+              × (((depot p < p .roads .size) × Demands (p .roads .size) (p .demand) × Lent lengths stops × (d .routes ≤ length lengths))
+              × (All (Stops (p .roads .size)) routes × All (Prints (read p)) routes)))
+          eliminate-asks =
+              let b = accepted in
+              let inside = all-take (d .routes) (planned-stops (p .roads .size) (split lengths stops) (b .planned)) in
+              let few : length routes ≤ 64 = omega (arith, length-take (d .routes) (split lengths stops), length-split lengths stops, few-lengths) in
+              let in-all : length (flat routes) ≤ 64 = omega (arith, flat-take (d .routes) (split lengths stops), ap length (flat-split-all lengths stops (b .sum)), few-stops) in (
+                record { fits = omega (arith, listing-fits (read p) routes counts given few in-all, room) },
+                (
+                  (b .admitted .fit .square .few, b .admitted .fit .square .distance-cells),
+                  (
+                    (
+                      b .admitted .depot-in,
+                      b .admitted .demands,
+                      record { inside = omega (arith, b .sum); few = omega (arith, few-stops) },
+                      omega (arith, few-routes p s d (slices-of lengths stops) answers, same),
+                    ),
+                    (inside, all-map (λ r q. stops-print (p .roads .size) (p .demand) (p .roads .distances) (p .vehicle) short (b .admitted .depot-in) r q) inside),
+                  ),
+                ),
+              )
 
 -- ---- minimise, in code
 
@@ -201,21 +208,21 @@ module _
     (e : reply-of a lengths stops ≡ public-minimise p plan (allowance limit clock tape) (work-of small wide))
     (h : small ≡ 8192)
     (g : wide ≡ 2048)
-    where
-  lent-first : reply-of a lengths stops ≡ public-minimise p plan (allowance limit clock tape) work
-  lent-first = rw (h, g) at e
+  where
+    lent-first : reply-of a lengths stops ≡ public-minimise p plan (allowance limit clock tape) work
+    lent-first = rw (h, g) at e
 
-  pub minimise-refuses : (k : ℕ) → a ≡ NotReplied k → refusal-line k ≡ planned (sheet-of p plan tape limit clock)
-  unfolding planned
-  minimise-refuses k f =
-      let r : record { answer = refused k; slices = slices-of lengths stops } ≡ public-minimise p plan (allowance limit clock tape) work = told (λ (b : Replied). reply-of b lengths stops) f lent-first in
-      rw (← r)
+    pub minimise-refuses : (k : ℕ) → a ≡ NotReplied k → refusal-line k ≡ planned (sheet-of p plan tape limit clock)
+    unfolding planned
+    minimise-refuses k f =
+        let r : record { answer = refused k; slices = slices-of lengths stops } ≡ public-minimise p plan (allowance limit clock tape) work = told (λ (b : Replied). reply-of b lengths stops) f lent-first in
+        rw (← r)
 
-  pub minimise-goes-on : (d : Reduction) → a ≡ RepliedAs d → eliminated p (slices-of lengths stops) (d .counts) (length (plan .lengths)) ≡ planned (sheet-of p plan tape limit clock)
-  unfolding planned
-  minimise-goes-on d f =
-      let r : said d (slices-of lengths stops) ≡ public-minimise p plan (allowance limit clock tape) work = told (λ (b : Replied). reply-of b lengths stops) f lent-first in
-      rw (← r)
+    pub minimise-goes-on : (d : Reduction) → a ≡ RepliedAs d → eliminated p (slices-of lengths stops) (d .counts) (length (plan .lengths)) ≡ planned (sheet-of p plan tape limit clock)
+    unfolding planned
+    minimise-goes-on d f =
+        let r : said d (slices-of lengths stops) ≡ public-minimise p plan (allowance limit clock tape) work = told (λ (b : Replied). reply-of b lengths stops) f lent-first in
+        rw (← r)
 
 -- ---- the reader, in code
 

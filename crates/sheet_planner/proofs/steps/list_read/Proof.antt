@@ -28,19 +28,26 @@ list-parts-requires : tie.Need-list-parts-requires
 list-parts-requires c κs =
     let q = c .before .before .before .before .before .before .before .before .before .before .before .before .before .before .before .before .before .before .before .before .before .before .before .before .before .before .before .before .before .before .before .before .before .before .before .before .before .before .before .before .before .before .before .before .before .before .before .before .before .before .before .before .before .before .before .before .before .before .before .before .before .before .before .before .pre in
     let k = c .before .before .before .before .before .before .before .before .before .before .before .before .before .before .before .before .before .before .before .before .before .before .before .before .before .before .before .before .before .before .before .before .before .before .before .before .before .before .sheet .kept in
-    let e = c .before .before .before .before .before .before .before .before .before .before .before .before .before .before .before .x2 .given .1 in
-    (q .0,
-    ((omega (arith, q .1 .0 .0, k .0), omega (arith, q .1 .0 .1, k .1 .0), omega (arith, q .1 .0 .2, k .1 .1 .0)),
-    (record {
-      demands = omega (arith, q .1 .1 .0 .demands, k .1 .1 .1 .0);
-      services = omega (arith, q .1 .1 .0 .services, k .1 .1 .1 .1 .0);
-      readies = omega (arith, q .1 .1 .0 .readies, k .1 .1 .1 .1 .1 .0);
-      dues = omega (arith, q .1 .1 .0 .dues, k .1 .1 .1 .1 .1 .1 .0);
-      penalties = omega (arith, q .1 .1 .0 .penalties, k .1 .1 .1 .1 .1 .1 .1 .0);
-      flag-cells = omega (arith, q .1 .1 .0 .flag-cells, k .1 .1 .1 .1 .1 .1 .1 .1 .0);
-    },
-    ((omega (arith, q .1 .1 .1 .0, k .1 .1 .1 .1 .1 .1 .1 .1 .1 .0), omega (arith, q .1 .1 .1 .1, k .1 .1 .1 .1 .1 .1 .1 .1 .1 .1 .0)),
-    (subst SheetWithin e (c .before .before .before .before .before .before .before .before .before .before .before .before .before .before .before .before .before .before .before .before .before .before .before .before .before .before .before .before .before .before .before .before .before .before .before .before .before .before .sheet .ensures .1), sheet-short _ _ _ _ (sym (told (told-sheet _ _ _ _ _ _) e (c .before .before .before .before .before .before .before .before .before .before .before .before .before .before .before .before .before .before .before .before .before .before .before .before .before .before .before .before .before .before .before .before .before .before .before .before .before .before .sheet .ensures .0))))))))
+    let e = c .before .before .before .before .before .before .before .before .before .before .before .before .before .before .before .x2 .given .1 in (
+      q .0,
+      (
+        (omega (arith, q .1 .0 .0, k .0), omega (arith, q .1 .0 .1, k .1 .0), omega (arith, q .1 .0 .2, k .1 .1 .0)),
+        (
+          record {
+            demands = omega (arith, q .1 .1 .0 .demands, k .1 .1 .1 .0);
+            services = omega (arith, q .1 .1 .0 .services, k .1 .1 .1 .1 .0);
+            readies = omega (arith, q .1 .1 .0 .readies, k .1 .1 .1 .1 .1 .0);
+            dues = omega (arith, q .1 .1 .0 .dues, k .1 .1 .1 .1 .1 .1 .0);
+            penalties = omega (arith, q .1 .1 .0 .penalties, k .1 .1 .1 .1 .1 .1 .1 .0);
+            flag-cells = omega (arith, q .1 .1 .0 .flag-cells, k .1 .1 .1 .1 .1 .1 .1 .1 .0);
+          },
+          (
+            (omega (arith, q .1 .1 .1 .0, k .1 .1 .1 .1 .1 .1 .1 .1 .1 .0), omega (arith, q .1 .1 .1 .1, k .1 .1 .1 .1 .1 .1 .1 .1 .1 .1 .0)),
+            (subst SheetWithin e (c .before .before .before .before .before .before .before .before .before .before .before .before .before .before .before .before .before .before .before .before .before .before .before .before .before .before .before .before .before .before .before .before .before .before .before .before .before .before .sheet .ensures .1), sheet-short _ _ _ _ (sym (told (told-sheet _ _ _ _ _ _) e (c .before .before .before .before .before .before .before .before .before .before .before .before .before .before .before .before .before .before .before .before .before .before .before .before .before .before .before .before .before .before .before .before .before .before .before .before .before .before .sheet .ensures .0)))),
+          ),
+        ),
+      ),
+    )
 
 same-length : tie.Need-same-length
 same-length c = search needs
