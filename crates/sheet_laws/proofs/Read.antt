@@ -1,4 +1,4 @@
--- What a sheet that was read holds: its distances are n × n whole numbers of at most nine digits. `Gives P r` says that what was read, if anything,
+-- What a sheet that was read holds: its distances are n × n whole numbers of at most nine digits, and it has at most 64 routes with 64 stops in all. `Gives P r` says that what was read, if anything,
 -- has P; each form of the readers has one rule. Assumes nothing.
 use Prim.Native.Nat.{ℕ, zero, suc, _+_, _-_, _*_, _^_, _≤_, _<_}
 use mathlib.Core.Path.{_≡_, refl, ap, sym, _∙_, subst}
@@ -8,13 +8,13 @@ use native.Mathlib.Omega.{arith}
 use native.Mathlib.Nat.{suc-mul, zero-mul, mul-one, mul-assoc, mul-le-mul-left, mul-le-mul-right, one-le-pow, pow-succ', lt-of-lt-of-le}
 use borrow.Author.Tests.{leb-true}
 use lib.Dec.{leb}
-use lib.ListN.{length, length-append}
+use lib.ListN.{length, length-append, length-map}
 use Rattle.laws.specs.All.{All, all-nil, all-cons, all-append}
 use Rattle.laws.specs.Searches.{and-second}
 use Rattle.models.specs.Problem.{Problem, DistanceMatrix}
-use Rattle.plan.specs.Plan.{flat}
-use Rattle.sheet_text.specs.Text.{Reading, refused, got, next, Parser, bytes, check, byte, before, is-digit, is-end, look, byte-at, digits, number, ending, repeat, line, heading}
-use Rattle.sheet_format.specs.Form.{Sheet, vehicle, places, square, distances, times, roads, break, draws, routes, last-run, whole-problem, problem-of, sections, sheet}
+use Rattle.plan.specs.Plan.{Plan, flat}
+use Rattle.sheet_text.specs.Text.{Reading, refused, got, next, Parser, bytes, space, lf, check, byte, word, before, is-digit, is-end, look, byte-at, digits, number, ending, repeat, line, heading}
+use Rattle.sheet_format.specs.Form.{Sheet, vehicle, places, square, distances, times, roads, break, draws, route-line, route-lines, routes, stop-cell, slices-of, last-run, whole-problem, problem-of, sections, sheet}
 use Rattle.sheet_laws.specs.Short.{Short}
 
 -- ---- one rule for each form
@@ -45,6 +45,11 @@ gives-more P Q (got a at) f h = f a h
 
 gives-before : {A : Type 0} (P : A → Type 0) (b : ℕ) (p : Parser A) (s : List ℕ) (at : ℕ) → Gives P (p s at) → Gives P (before b p s at)
 gives-before P b p s at h = gives-next P P (p s at) _ h (λ a i q. gives-after P (byte b s i) _ (λ u j. q))
+
+-- what follows a check may rely on it
+gives-check : {B : Type 0} (Q : B → Type 0) (b : Bool) (n : ℕ) (s : List ℕ) (at : ℕ) (f : Unit {0} → ℕ → Reading B) → (b ≡ true → (i : ℕ) → Gives Q (f tt i)) → Gives Q (next (check b n s at) f)
+gives-check Q true n s at f g = g refl at
+gives-check Q false n s at f g = tt
 
 gives-repeat
     : {A : Type 0} (P : A → Type 0) (n : ℕ) (p : ℕ → Parser A) (s : List ℕ) (at : ℕ)
@@ -135,6 +140,48 @@ gives-roads n s at =
     (λ rows i h. gives-after Short-roads (times n s i) _
     (λ ts j. record { cells = flat rows; are = refl; size = all-rows n n rows (h .0) (h .1) .1; small = all-rows n n rows (h .0) (h .1) .0 }))
 
+-- ---- routes
+
+abbrev Upto : ℕ → ℕ → Type 0
+Upto most n = n ≤ most
+
+gives-heading : (name : List ℕ) (least most refusal : ℕ) (s : List ℕ) (at : ℕ) → Gives (Upto most) (heading name least most refusal s at)
+unfolding heading
+gives-heading name least most refusal s at =
+    gives-after (Upto most) (word name s at) _
+    (λ u i. gives-after (Upto most) (byte space s i) _
+    (λ v j. gives-after (Upto most) (number s j) _
+    (λ n k. gives-check (Upto most) (leb least n && leb n most) refusal s k _
+    (λ e l. gives-after (Upto most) (byte lf s l) _ (λ w m. leb-true n most (and-second (leb least n) (leb n most) e))))))
+
+gives-route : (room : ℕ) (s : List ℕ) (at : ℕ) → Gives (λ r. length r ≤ room) (route-line room s at)
+unfolding route-line
+gives-route room s at =
+    gives-after (λ r. length r ≤ room) (number s at) _
+    (λ k i. gives-check (λ r. length r ≤ room) (leb k room) 12 s i _
+    (λ e j. gives-after (λ r. length r ≤ room) (byte (ending k) s j) _
+    (λ u l. gives-more (Row k) (λ r. length r ≤ room) (line k s l) (λ r h. omega (arith, h .1, leb-true k room e)) (gives-line k s l))))
+
+-- so many routes, with so many stops in all
+abbrev Few : ℕ → ℕ → Plan → Type 0
+Few n room plan = (length plan ≡ n) × (length (flat plan) ≤ room)
+
+gives-routes : (n room : ℕ) (s : List ℕ) (at : ℕ) → Gives (Few n room) (route-lines n room s at)
+unfolding route-lines flat
+gives-routes zero room s at = (refl, omega arith)
+gives-routes (suc n) room s at =
+    gives-next (λ r. length r ≤ room) (Few (suc n) room) (route-line room s at) _ (gives-route room s at)
+    (λ r i h. gives-next (Few n (room - length r)) (Few (suc n) room) (route-lines n (room - length r) s i) _ (gives-routes n (room - length r) s i)
+    (λ rest j g. (ap suc (g .0), omega (arith, length-append r (flat rest), h, g .1))))
+
+gives-plan : (s : List ℕ) (at : ℕ) → Gives (λ plan. (length plan ≤ 64) × (length (flat plan) ≤ 64)) (routes s at)
+unfolding routes
+gives-plan s at =
+    gives-next (Upto 64) (λ plan. (length plan ≤ 64) × (length (flat plan) ≤ 64)) (heading (bytes "routes") 0 64 12 s at) _
+    (gives-heading (bytes "routes") 0 64 12 s at)
+    (λ n i h. gives-more (Few n 64) (λ plan. (length plan ≤ 64) × (length (flat plan) ≤ 64)) (route-lines n 64 s i)
+    (λ plan g. (omega (arith, g .0, h), g .1)) (gives-routes n 64 s i))
+
 -- ---- the sheet
 
 abbrev Short-problem : Problem → Type 0
@@ -148,19 +195,22 @@ gives-problem s at =
     (λ ps j. gives-next Short-roads Short-problem (roads (length ps) s j) _ (gives-roads (length ps) s j)
     (λ m k h. gives-after Short-problem (break s k) _ (λ r l. h))))
 
-abbrev Short-sheet : Sheet → Type 0
-Short-sheet x = Short-problem (x .problem)
+-- of a sheet that was read
+pub record Held (x : Sheet) : Type 0 where
+  pub short : Short (x .problem .roads .size) (x .problem .roads .distances)
+  pub few-routes : length (x .plan .lengths) ≤ 64
+  pub few-stops : length (x .plan .stops) ≤ 64
 
-gives-sections : (s : List ℕ) (at : ℕ) → Gives Short-sheet (sections s at)
-unfolding sections
+gives-sections : (s : List ℕ) (at : ℕ) → Gives Held (sections s at)
+unfolding sections slices-of
 gives-sections s at =
-    gives-next Short-problem Short-sheet (whole-problem s at) _ (gives-problem s at)
-    (λ p i h. gives-after Short-sheet (draws s i) _
-    (λ tape j. gives-after Short-sheet (routes s j) _ (λ plan k. gives-after Short-sheet (last-run s k) _ (λ r l. h))))
+    gives-next Short-problem Held (whole-problem s at) _ (gives-problem s at)
+    (λ p i h. gives-after Held (draws s i) _
+    (λ tape j. gives-next (λ plan. (length plan ≤ 64) × (length (flat plan) ≤ 64)) Held (routes s j) _ (gives-plan s j)
+    (λ plan k g. gives-after Held (last-run s k) _
+    (λ r l. record { short = h; few-routes = omega (arith, g .0, length-map plan length); few-stops = omega (arith, g .1, length-map (flat plan) stop-cell) }))))
 
--- the distances of a sheet that was read
-pub sheet-short : (s : List ℕ) (at : ℕ) (x : Sheet) (e : ℕ) → sheet s at ≡ got x e → Short (x .problem .roads .size) (x .problem .roads .distances)
+pub sheet-holds : (s : List ℕ) (at : ℕ) (x : Sheet) (e : ℕ) → sheet s at ≡ got x e → Held x
 unfolding sheet
-sheet-short s at x e h =
-    gives-got Short-sheet (sheet s at) x e h
-    (gives-after Short-sheet (check (leb (length s) 60000) 10 s at) _ (λ u i. gives-sections s i))
+sheet-holds s at x e h =
+    gives-got Held (sheet s at) x e h (gives-after Held (check (leb (length s) 60000) 10 s at) _ (λ u i. gives-sections s i))

@@ -11,8 +11,8 @@ use lib.Ieee.{Float}
 use Rattle.laws.specs.All.{All, all-nil, all-cons, all-of, all-map, all-take}
 use Rattle.models.specs.declared.vehicle.Vehicle.{Vehicle}
 use Rattle.models.specs.Problem.{Problem, problem, matrix, depot, Stops, Demands}
-use Rattle.plan.specs.Plan.{Plan, Slices, Lent, split, flat, total, lengths-of}
-use Rattle.plan.specs.Slices.{length-split, flat-split-all, total-lengths, lengths-take, offset-within}
+use Rattle.plan.specs.Plan.{Plan, Slices, Lent, split, flat}
+use Rattle.plan.specs.Slices.{length-split, flat-split-all}
 use Rattle.local_search.specs.Planned.{planned-stops}
 use Rattle.local_search.specs.declared.rounds.Counts.{Counts}
 use Rattle.local_search.specs.declared.rounds.Reduction.{Reduction}
@@ -39,6 +39,7 @@ use Rattle.listing.proofs.ReadLaws.{read, listing-reads}
 use Rattle.listing.proofs.BoundLaws.{listing-fits, refusal-fits}
 use Rattle.sheet_laws.specs.Short.{Short}
 use Rattle.sheet_laws.proofs.Distances.{distance-prints}
+use Rattle.sheet_planner.proofs.Fits.{flat-take}
 use Rattle.sheet_planner.specs.Printed.{work, eliminated, planned, sheet-of, printed}
 
 -- ---- an accepted call
@@ -104,11 +105,6 @@ few-routes p s d t e = go (refusal (eliminate-inputs p s work)) e
         let a = ap (λ (y : Reply). y .answer) f in
         let b : d .routes ≡ length x = ap (λ (y : Reduction). y .routes) (answer-is a) in
         omega (arith, b, eliminate-keeps p (λ r. Unit {0}) (λ r h. tt) (plan-in s) (every (plan-in s)) .no-longer, length-split (s .lengths) (s .stops))
-
--- the stops of some of a plan's routes are no more than all
-flat-take : (k : ℕ) (plan : Plan) → length (flat (take k plan)) ≤ length (flat plan)
-flat-take k plan =
-    omega (arith, total-lengths (take k plan), total-lengths plan, ap total (lengths-take plan k), offset-within (lengths-of plan) k)
 
 -- routes over n places print where the distances have nine digits
 stops-print : (n : ℕ) (demand : List ℤ) (distances : List Float) (v : Vehicle) → Short n distances → v .«depot_id» < n → (route : List ℕ) → Stops n route

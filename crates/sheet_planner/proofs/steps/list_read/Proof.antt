@@ -4,7 +4,7 @@ use borrow.Author.Needs.{needs}
 use mathlib.Core.Path.{sym, subst, _∙_}
 use Rattle.sheet_text.proofs.ReadLaws.{told}
 use Rattle.sheet_whole.specs.Whole.{told-sheet, SheetWithin}
-use Rattle.sheet_laws.proofs.Read.{sheet-short}
+use Rattle.sheet_laws.proofs.Read.{sheet-holds}
 use Rattle.sheet_planner.proofs.ListedLaws.{refusal-room, written-as, reader-refuses, reader-goes-on}
 use Rattle.sheet_planner.proofs.steps.list_read.Statement.{statement}
 use Rattle.sheet_planner.proofs.steps.list_read.Tie as tie
@@ -43,7 +43,7 @@ list-parts-requires c κs =
           },
           (
             (omega (arith, q .1 .1 .1 .0, k .1 .1 .1 .1 .1 .1 .1 .1 .1 .0), omega (arith, q .1 .1 .1 .1, k .1 .1 .1 .1 .1 .1 .1 .1 .1 .1 .0)),
-            (subst SheetWithin e (c .before .before .before .before .before .before .before .before .before .before .before .before .before .before .before .before .before .before .before .before .before .before .before .before .before .before .before .before .before .before .before .before .before .before .before .before .before .before .sheet .ensures .1), sheet-short _ _ _ _ (sym (told (told-sheet _ _ _ _ _ _) e (c .before .before .before .before .before .before .before .before .before .before .before .before .before .before .before .before .before .before .before .before .before .before .before .before .before .before .before .before .before .before .before .before .before .before .before .before .before .before .sheet .ensures .0)))),
+            (subst SheetWithin e (c .before .before .before .before .before .before .before .before .before .before .before .before .before .before .before .before .before .before .before .before .before .before .before .before .before .before .before .before .before .before .before .before .before .before .before .before .before .before .sheet .ensures .1), sheet-holds _ _ _ _ (sym (told (told-sheet _ _ _ _ _ _) e (c .before .before .before .before .before .before .before .before .before .before .before .before .before .before .before .before .before .before .before .before .before .before .before .before .before .before .before .before .before .before .before .before .before .before .before .before .before .before .sheet .ensures .0))) .short),
           ),
         ),
       ),
