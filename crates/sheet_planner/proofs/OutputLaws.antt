@@ -6,8 +6,8 @@ use mathlib.Core.List.{List}
 use native.Mathlib.Omega.{arith}
 use borrow.Author.Tests.{lt-ltb, le-ltb, ltb-false}
 use lib.Dec.{ltb}
-use lib.ListN.{length}
-use lib.Seq.{sets}
+use lib.ListN.{length, take}
+use lib.Seq.{sets, length-take-le}
 use Rattle.listing.specs.Written.{Written}
 use Rattle.sheet_planner.specs.declared.Printed.{Printed}
 use Rattle.sheet_planner.specs.declared.Printed.the-variants.{NoRoom, Bytes}
@@ -38,3 +38,6 @@ bytes-there out s after r n e f g = go (ltb (length out) 6000) refl (sym e ∙ a
     go false h a =
         let b : n ≡ length (printed s) = cc in
         omega (arith, b, printed-fits s, ltb-false (length out) 6000 h, g)
+
+pub bytes-counted : (out s after : List ℕ) (r : Printed) (n : ℕ) → r ≡ Bytes n → output r after ≡ into out (printed s) → length after ≡ length out → n ≡ length (take n after)
+bytes-counted out s after r n e f g = sym (length-take-le n after (bytes-there out s after r n e f g))
