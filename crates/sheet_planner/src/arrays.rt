@@ -1,6 +1,10 @@
-// Room for a sheet of 64 places, 64 routes, 64 stops and 1,024 draws, and for the work on it. Each slice is made by a function that says its length alone.
+// Room for a sheet of 64 places, 64 routes, 64 stops and 1,024 draws, and for the work on it. Each array is made by a function that ensures its length
+// alone.
 ghost use mathlib.Core.Path.{_≡_};
 ghost use lib.ListN.{length};
+
+// The u16 work cells: the least that row 9 leaves.
+const WORK: usize = 8192;
 
 pub fn u16s_64() -> [u16; 64]
     ensures { λ r. ⌜ length r ≡ 64 ⌝ }
@@ -8,10 +12,10 @@ pub fn u16s_64() -> [u16; 64]
     [0; 64]
 }
 
-pub fn u16s_8192() -> [u16; 8192]
+pub fn u16s_8192() -> [u16; WORK]
     ensures { λ r. ⌜ length r ≡ 8192 ⌝ }
 {
-    [0; 8192]
+    [0; WORK]
 }
 
 pub fn u64s_1024() -> [u64; 1024]
