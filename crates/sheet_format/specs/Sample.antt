@@ -12,7 +12,7 @@ use Rattle.sheet_text.specs.Text.{got, bytes}
 use Rattle.sheet_format.specs.Form.{Sheet, sheet}
 use Rattle.sheet_format.specs.Opened.{opened}
 
-pub sample : List ℕ
+unfoldable pub sample : List ℕ
 sample =
     bytes
     "vehicle 1\n10 0 0 1 - -\nplaces 3\n0 0 - - -\n4 0 - - -\n5 0 - - -\ndistances 3\n0 10 10\n10 0 5\n10 5 0\ntimes 0\nbreak 0\ndraws 1\n7\nroutes 2\n1 1\n1 2\nrun 1\n5 5\n"

@@ -3,3 +3,5 @@
 pub mod Stops
 -- the distance of a route is a whole number
 pub mod Distances
+-- the distances of a sheet that was read
+pub mod Read

@@ -1,0 +1,2 @@
+-- distances of nine digits
+pub mod Short
