@@ -4,3 +4,5 @@ pub mod Fits
 pub mod ListedLaws
 -- a text in the slice that is lent
 pub mod OutputLaws
+-- each text is refused or listed
+pub mod Answers
