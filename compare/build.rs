@@ -36,7 +36,6 @@ const LEFT_OUT: [(&str, &str); 6] = [
 
 fn main() {
     println!("cargo::rustc-check-cfg=cfg(original)");
-    println!("cargo::rustc-check-cfg=cfg(sheets)");
     println!("cargo::rerun-if-env-changed=COBRWYDD_RUST");
     println!("cargo::rerun-if-changed=build.rs");
     println!("cargo::rerun-if-changed=stand-ins");
@@ -90,11 +89,6 @@ fn link_port(here: &Path) {
         println!("cargo::error=the port is not in {}: run 'rt staticlib cobrwydd' first", archive.display());
         return;
     };
-    // a port from before the sheet is linked too
-    let name = b"cobrwydd_plan_sheet";
-    if fs::read(&archive).is_ok_and(|bytes| bytes.windows(name.len()).any(|part| part == name)) {
-        println!("cargo::rustc-cfg=sheets");
-    }
     let folder = archive.parent().unwrap().display();
     println!("cargo::rustc-link-search=native={folder}");
     if archive.extension().is_some_and(|end| end == "so") {

@@ -204,10 +204,6 @@ pub fn time_window_new(out: &mut [f64], found: &mut [u64], ready: f64, due: f64)
     unsafe { cobrwydd_time_window_new(out.as_mut_ptr(), out.len(), found.as_mut_ptr(), found.len(), ready, due) }
 }
 
-/// Whether the port that is linked has the function for sheets.
-pub const PLANS_SHEETS: bool = cfg!(sheets);
-
-#[cfg(sheets)]
 extern "C" {
     fn cobrwydd_plan_sheet(
         out: *mut u8,
@@ -219,15 +215,10 @@ extern "C" {
     ) -> u8;
 }
 
-#[cfg(sheets)]
+/// A sheet from bytes to bytes.
 pub fn plan_sheet(out: &mut [u8], written: &mut [u64], text: &[u8]) -> u8 {
     // as in `called`
     unsafe {
         cobrwydd_plan_sheet(out.as_mut_ptr(), out.len(), written.as_mut_ptr(), written.len(), text.as_ptr(), text.len())
     }
-}
-
-#[cfg(not(sheets))]
-pub fn plan_sheet(_out: &mut [u8], _written: &mut [u64], _text: &[u8]) -> u8 {
-    unreachable!("the port has no such function")
 }

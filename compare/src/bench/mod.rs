@@ -63,10 +63,6 @@ pub fn run(words: &[String]) -> i32 {
     let mut all: Vec<Figures> = vec![];
     for name in chosen {
         let bench = bench(name).expect("a name of the list");
-        if matches!(bench.work, Work::Sheet(_)) && !port::PLANS_SHEETS {
-            eprintln!("compare: {name} is not measured: the port has no function for sheets");
-            continue;
-        }
         match measured(bench, counts) {
             Ok(figures) => {
                 tables::row(&figures, all.last());

@@ -6,7 +6,6 @@ use super::form::{self, Sheet};
 use super::{ported, program};
 use crate::model::Model;
 use crate::original::Original;
-use crate::port;
 use crate::problem::{PENALTY, WINDOW};
 use crate::random::Random;
 
@@ -98,12 +97,10 @@ impl Compared {
                 faults.push(format!("the model prints {}", shown(&model)));
             }
         }
-        if port::PLANS_SHEETS {
-            match ported::printed(text, &mut self.random) {
-                Ok(printed) if printed == right => {}
-                Ok(printed) => faults.push(format!("the port prints {}", shown(&printed))),
-                Err(fault) => faults.push(format!("the port: {fault}")),
-            }
+        match ported::printed(text, &mut self.random) {
+            Ok(printed) if printed == right => {}
+            Ok(printed) => faults.push(format!("the port prints {}", shown(&printed))),
+            Err(fault) => faults.push(format!("the port: {fault}")),
         }
         if !faults.is_empty() {
             self.differ += 1;

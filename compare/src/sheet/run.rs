@@ -7,7 +7,6 @@ use super::damage::KINDS;
 use super::edits::{each, SAMPLE, SMALL};
 use super::random::case;
 use crate::generate::case_seed;
-use crate::port;
 
 /// Compares `count` random sheets of a seed, and all edits; prints what was reached. Whether all agree and all was reached.
 pub fn run(count: u64, seed: u64) -> bool {
@@ -55,9 +54,5 @@ pub fn run(count: u64, seed: u64) -> bool {
         edits.sheets,
         random.differ + edits.differ
     );
-    if !port::PLANS_SHEETS {
-        println!("the port plans no sheets yet: nothing was compared with it");
-        fault = true;
-    }
     !fault
 }
