@@ -1,8 +1,8 @@
 -- `print_sheet` meets its contract. Assumes nothing.
 use borrow.Author.Needs.{needs}
 use Rattle.sheet_planner.proofs.OutputLaws.{bytes-there, bytes-counted}
-use Rattle.sheet.proofs.print_sheet.Statement.{statement}
-use Rattle.sheet.proofs.print_sheet.Tie as tie
+use Rattle.sheet_print.proofs.print_sheet.Statement.{statement}
+use Rattle.sheet_print.proofs.print_sheet.Tie as tie
 
 plan-sheet-requires : tie.Need-plan-sheet-requires
 plan-sheet-requires c κs = search needs
