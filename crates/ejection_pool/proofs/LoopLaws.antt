@@ -14,7 +14,7 @@ use Rattle.plan.specs.Plan.{Plan, Lent, split}
 use Rattle.local_search.specs.declared.rounds.Counts.{Counts}
 use Rattle.local_search.specs.Rounds.{Tried}
 use Rattle.insertion.specs.Cheapest.{cheapest}
-use Rattle.ejection.specs.Made.{stack, stack-pop}
+use Rattle.ejection_made.specs.Made.{stack, stack-pop}
 use Rattle.ejection_pool.specs.declared.Turn.{Turn as Ended}
 use Rattle.ejection_pool.specs.declared.Turn.the-variants.{Stuck, More}
 use Rattle.ejection_pool.specs.declared.Emptied.the-variants.{Failed, Done}

@@ -28,7 +28,7 @@ use Rattle.ejection.specs.declared.Best.{Best as Ejected}
 use Rattle.ejection.specs.declared.Best.the-variants.{Nothing as NoEjection, At as EjectionAt}
 use Rattle.ejection.specs.Eject.{eject, ejected, make-room, gone, chosen as ejection-chosen}
 use Rattle.ejection.specs.Ejected.{Inside, Ejects, eject-found}
-use Rattle.ejection.specs.Made.{stack, Made}
+use Rattle.ejection_made.specs.Made.{stack, Made}
 use Rattle.perturbation.specs.Perturb.{Drawn, perturb}
 use Rattle.ejection_pool.specs.declared.Turn.the-variants.{Stuck, More}
 use Rattle.ejection_pool.specs.Pool.{after-eject}

@@ -20,7 +20,7 @@ use Rattle.local_search.specs.Planned.{Planned}
 use Rattle.insertion.specs.Cheapest.{cheapest}
 use Rattle.ejection.specs.Asked.{Counted}
 use Rattle.ejection.specs.Eject.{eject}
-use Rattle.ejection.specs.Made.{stack, stack-pop}
+use Rattle.ejection_made.specs.Made.{stack, stack-pop}
 use Rattle.ejection_pool.specs.declared.Turn.the-variants.{Stuck, More}
 use Rattle.ejection_pool.specs.Pool.{State, Turn, after-cheapest, after-eject}
 use Rattle.ejection_pool.specs.Pooled.{Pooled, pooled-planned, raised}

@@ -15,7 +15,7 @@ use Rattle.local_search.specs.declared.route.Insertion.{Insertion}
 use Rattle.local_search.specs.Rounds.{Tried}
 use Rattle.local_search.specs.Planned.{Planned}
 use Rattle.ejection.specs.Asked.{Counted}
-use Rattle.ejection.specs.Made.{stack}
+use Rattle.ejection_made.specs.Made.{stack}
 use Rattle.ejection_pool.specs.declared.Emptied.{Emptied}
 use Rattle.ejection_pool.specs.declared.Emptied.the-variants.{Failed, Done}
 use Rattle.ejection_pool.specs.declared.Turn.{Turn as Ended}

@@ -27,7 +27,7 @@ use Rattle.local_search.specs.Route.{cost}
 use Rattle.local_search.specs.Rounds.{Tried}
 use Rattle.local_search.specs.Search.{Ends-with-0, but-last}
 use Rattle.local_search.proofs.ReadLaws.{cost-any}
-use Rattle.ejection.specs.Made.{stack}
+use Rattle.ejection_made.specs.Made.{stack}
 use Rattle.ejection_pool.specs.declared.Emptied.{Emptied}
 use Rattle.ejection_pool.specs.declared.Emptied.the-variants.{Failed, Done}
 use Rattle.route_minimization.specs.declared.attempt.Attempted.{Attempted}

@@ -9,7 +9,7 @@ ghost use Rattle.models.specs.Problem.{problem, of-distances, Stops};
 ghost use Rattle.laws.specs.All.{All};
 ghost use Rattle.plan.specs.Plan.{Lent, split, route};
 ghost use Rattle.local_search.specs.Route.{cost};
-ghost use Rattle.ejection.specs.Made.{stack};
+ghost use Rattle.ejection_made.specs.Made.{stack};
 ghost use Rattle.ejection_pool.specs.Pool.{run-pool};
 ghost use Rattle.route_minimization.specs.Minimize.{attempt};
 ghost use Rattle.ejection_pool.specs.Running.{Running, state, allowance, said};
