@@ -20,7 +20,7 @@ use insertion::cheapest;
 use local_search::rounds::Counts;
 use local_search::route::Best;
 use models::vehicle::Vehicle;
-use perturbation::perturb;
+use random_moves::perturb;
 
 // How a turn ends: no ejection works; or the number in the pool. With the counts of the call so far.
 pub enum Turn {

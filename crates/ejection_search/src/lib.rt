@@ -11,12 +11,12 @@ ghost use Rattle.plan.specs.Plan.{Lent, split};
 ghost use Rattle.ejection.specs.Eject.{chosen, try-out, try-one, try-two-from, try-two, eject};
 ghost use Rattle.ejection.specs.Asked.{Counted, Sought};
 ghost use Rattle.ejection_search.specs.Some.{try-some, eject-some};
+use ejection::Best;
 use ejection::fails_more;
 use ejection::failure_sum;
 use ejection::keep;
-use ejection::Best;
-use ejection_positions::try_left;
 use ejection_positions::Out;
+use ejection_positions::try_left;
 use models::vehicle::Vehicle;
 
 // The stops at i and j leave route k: first their failures alone, then what is kept.
