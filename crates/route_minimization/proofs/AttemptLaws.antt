@@ -28,15 +28,16 @@ use Rattle.local_search.specs.Rounds.{Tried}
 use Rattle.local_search.specs.Search.{Ends-with-0, but-last}
 use Rattle.local_search.proofs.ReadLaws.{cost-any}
 use Rattle.ejection_made.specs.Made.{stack}
-use Rattle.ejection_pool.specs.declared.Emptied.{Emptied}
-use Rattle.ejection_pool.specs.declared.Emptied.the-variants.{Failed, Done}
+use Rattle.pool_turns.specs.declared.Emptied.{Emptied}
+use Rattle.pool_turns.specs.declared.Emptied.the-variants.{Failed, Done}
 use Rattle.route_minimization.specs.declared.attempt.Attempted.{Attempted}
 use Rattle.route_minimization.specs.declared.attempt.Attempted.the-variants.{Kept, Accepted}
 use Rattle.ejection_pool.specs.Pool.{Allowance, State, Turn, stop, more, turn, at-limit, run-pool, empty-into}
 use Rattle.route_minimization.specs.Minimize.{if-cheaper, attempt}
 use Rattle.ejection_pool.specs.Turns.{Then, turn-rule, pool-rule}
 use Rattle.ejection_pool.specs.Pooled.{Pooled, pooled-planned, pooled-more}
-use Rattle.ejection_pool.specs.Running.{Running, state, said}
+use Rattle.ejection_pool.specs.Running.{Running, state}
+use Rattle.pool_turns.specs.Ends.{said}
 use Rattle.route_minimization.specs.Attempting.{Attempting, Leaves, tried, judged}
 
 -- ---- the pool at the start

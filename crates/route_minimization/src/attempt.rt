@@ -12,12 +12,11 @@ ghost use Rattle.local_search.specs.Route.{cost};
 ghost use Rattle.ejection_made.specs.Made.{stack};
 ghost use Rattle.ejection_pool.specs.Pool.{run-pool};
 ghost use Rattle.route_minimization.specs.Minimize.{attempt};
-ghost use Rattle.ejection_pool.specs.Running.{Running, state, allowance, said};
+ghost use Rattle.ejection_pool.specs.Running.{Running, state, allowance};
+ghost use Rattle.pool_turns.specs.Ends.{said};
 ghost use Rattle.local_search.specs.Search.{Ends-with-0, but-last};
 ghost use Rattle.route_minimization.specs.Attempting.{Attempting, Leaves, tried, judged};
 use cells::copy_part;
-use ejection_pool::Emptied;
-use ejection_pool::empty_into;
 use floats::abs;
 use local_search::rounds::Counts;
 use local_search::route::plan_cost;
@@ -26,6 +25,8 @@ use plan::erase_route;
 use plan::offset;
 use plan::restore;
 use plan::save;
+use pool_turns::Emptied;
+use pool_turns::empty_into;
 
 // How an attempt ends: the plan is kept as it was, or the one without the route is accepted; with the counts of the call so far.
 pub enum Attempted {

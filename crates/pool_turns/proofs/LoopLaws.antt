@@ -5,8 +5,6 @@ use native.Mathlib.Omega.{arith}
 use mathlib.Core.Path.{_≡_, refl, sym, ap, subst, _∙_}
 use mathlib.Core.Bool.{Bool, true, false}
 use mathlib.Core.List.{List, [], _∷_}
-use mathlib.Core.Option.{some}
-use borrow.Author.Tests.{le-leb, lt-leb}
 use lib.ListN.{length, getD}
 use lib.Ieee.{Float}
 use Rattle.models.specs.Problem.{Problem}
@@ -15,34 +13,14 @@ use Rattle.local_search.specs.declared.rounds.Counts.{Counts}
 use Rattle.local_search.specs.Rounds.{Tried}
 use Rattle.insertion.specs.Cheapest.{cheapest}
 use Rattle.ejection_made.specs.Made.{stack, stack-pop}
-use Rattle.ejection_pool.specs.declared.Turn.{Turn as Ended}
-use Rattle.ejection_pool.specs.declared.Turn.the-variants.{Stuck, More}
-use Rattle.ejection_pool.specs.declared.Emptied.the-variants.{Failed, Done}
-use Rattle.ejection_pool.specs.Pool.{Allowance, State, Turn, stop, more, failed, turn, after-cheapest, at-limit, run-pool}
-use Rattle.ejection_pool.specs.Turns.{pool-more, pool-stop}
+use Rattle.pool_turns.specs.declared.Turn.{Turn as Ended}
+use Rattle.pool_turns.specs.declared.Turn.the-variants.{Stuck, More}
+use Rattle.pool_turns.specs.declared.Emptied.the-variants.{Failed, Done}
+use Rattle.ejection_pool.specs.Pool.{Allowance, State, Turn, stop, more, failed, turn, after-cheapest, run-pool}
+use Rattle.ejection_pool.specs.Turns.{pool-more, pool-stop, emptied, at-the-limit, clocked, goes-on}
 use Rattle.ejection_pool.specs.Pooled.{Pooled, pooled-fewer, pooled-more}
-use Rattle.ejection_pool.specs.Running.{Running, state, allowance, as-turn, said}
-
--- ---- the ways that the loop ends, on the definition
-
-module _ (given : Allowance) (p : Problem) (s : State) where
-  -- the pool is empty, whatever steps are left
-  emptied : (left : ℕ) → s .pool ≡ [] → run-pool given p left s ≡ record { plan = some (s .routes); counts = s .counts }
-  emptied zero e = (unfold run-pool at-limit in ap (at-limit s) e)
-  emptied (suc left) e = pool-stop given p left s (record { plan = some (s .routes); counts = s .counts }) (unfold turn in ap (turn given p s) e)
-
-  module _ (c : ℕ) (rest : List ℕ) (e : s .pool ≡ c ∷ rest) where
-    at-the-limit : run-pool given p zero s ≡ failed (s .counts)
-    unfolding run-pool at-limit
-    at-the-limit = ap (at-limit s) e
-
-    clocked : given .clock ≤ s .counts .steps → turn given p s (s .pool) ≡ stop (failed (s .counts))
-    unfolding turn
-    clocked h = ap (turn given p s) e ∙ rw (le-leb (given .clock) (s .counts .steps) h)
-
-    goes-on : s .counts .steps < given .clock → turn given p s (s .pool) ≡ after-cheapest (given .tape) p s c rest (cheapest p (s .routes) c)
-    unfolding turn
-    goes-on h = ap (turn given p s) e ∙ rw (lt-leb (given .clock) (s .counts .steps) h)
+use Rattle.ejection_pool.specs.Running.{Running, state, allowance}
+use Rattle.pool_turns.specs.Ends.{as-turn, said}
 
 -- ---- the loop
 

@@ -1,12 +1,12 @@
 -- `empty_into` meets its contract.
 use mathlib.Core.List.{[]}
 use Rattle.models.specs.Problem.{problem}
 use Rattle.ejection_pool.specs.Running.{allowance, state}
-use Rattle.ejection_pool.proofs.LoopLaws.{Looping, looping-done, looping-spent, looping-clocked, looping-running, looping-stuck, looping-more}
+use Rattle.pool_turns.proofs.LoopLaws.{Looping, looping-done, looping-spent, looping-clocked, looping-running, looping-stuck, looping-more}
 use borrow.Author.Needs.{needs}
 use native.Mathlib.Omega.{arith}
-use Rattle.ejection_pool.proofs.empty_into.Statement.{statement}
-use Rattle.ejection_pool.proofs.empty_into.Tie as tie
+use Rattle.pool_turns.proofs.empty_into.Statement.{statement}
+use Rattle.pool_turns.proofs.empty_into.Tie as tie
 
 abbrev Inv-loop : tie.InvT-loop
 Inv-loop lengths₀ stops₀ pool₀ work₀ failures₀ cells₀ tape start limit clock needed vehicle demand n distances times service ready due penalty flags count₀ left₀ counts₀ lengths stops pool work failures cells count left counts =

@@ -30,10 +30,11 @@ use Rattle.ejection.specs.Eject.{eject, ejected, make-room, gone, chosen as eje
 use Rattle.ejection.specs.Ejected.{Inside, Ejects, eject-found}
 use Rattle.ejection_made.specs.Made.{stack, Made}
 use Rattle.perturbation.specs.Perturb.{Drawn, perturb}
-use Rattle.ejection_pool.specs.declared.Turn.the-variants.{Stuck, More}
+use Rattle.pool_turns.specs.declared.Turn.the-variants.{Stuck, More}
 use Rattle.ejection_pool.specs.Pool.{after-eject}
 use Rattle.ejection_pool.specs.Placing.{Placing, eject-keeps}
-use Rattle.ejection_pool.specs.Running.{Forcing, is-there, put-best, one-more, as-turn}
+use Rattle.ejection_pool.specs.Running.{Forcing, is-there, put-best, one-more}
+use Rattle.pool_turns.specs.Ends.{as-turn}
 
 -- ---- the cheapest place
 
