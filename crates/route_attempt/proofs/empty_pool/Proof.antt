@@ -1,8 +1,8 @@
--- `attempt::empty_pool` meets its contract.
+-- `empty_pool` meets its contract.
 use borrow.Author.Needs.{needs}
-use Rattle.route_minimization.proofs.AttemptLaws.{ones-running, ones-emptied}
-use Rattle.route_minimization.proofs.attempt.empty_pool.Statement.{statement}
-use Rattle.route_minimization.proofs.attempt.empty_pool.Tie as tie
+use Rattle.route_attempt.proofs.AttemptLaws.{ones-running, ones-emptied}
+use Rattle.route_attempt.proofs.empty_pool.Statement.{statement}
+use Rattle.route_attempt.proofs.empty_pool.Tie as tie
 
 sub-empty-into : tie.Need-sub-empty-into
 sub-empty-into c = search needs

@@ -30,15 +30,15 @@ use Rattle.local_search.proofs.ReadLaws.{cost-any}
 use Rattle.ejection_made.specs.Made.{stack}
 use Rattle.pool_turns.specs.declared.Emptied.{Emptied}
 use Rattle.pool_turns.specs.declared.Emptied.the-variants.{Failed, Done}
-use Rattle.route_minimization.specs.declared.attempt.Attempted.{Attempted}
-use Rattle.route_minimization.specs.declared.attempt.Attempted.the-variants.{Kept, Accepted}
+use Rattle.route_attempt.specs.declared.Attempted.{Attempted}
+use Rattle.route_attempt.specs.declared.Attempted.the-variants.{Kept, Accepted}
 use Rattle.ejection_pool.specs.Pool.{Allowance, State, Turn, stop, more, turn, at-limit, run-pool, empty-into}
-use Rattle.route_minimization.specs.Minimize.{if-cheaper, attempt}
+use Rattle.route_attempt.specs.Attempt.{if-cheaper, attempt}
 use Rattle.ejection_pool.specs.Turns.{Then, turn-rule, pool-rule}
 use Rattle.ejection_pool.specs.Pooled.{Pooled, pooled-planned, pooled-more}
 use Rattle.ejection_pool.specs.Running.{Running, state}
 use Rattle.pool_turns.specs.Ends.{said}
-use Rattle.route_minimization.specs.Attempting.{Attempting, Leaves, tried, judged}
+use Rattle.route_attempt.specs.Attempting.{Attempting, Leaves, tried, judged}
 
 -- ---- the pool at the start
 

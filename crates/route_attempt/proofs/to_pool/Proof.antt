@@ -1,8 +1,8 @@
--- `attempt::to_pool` meets its contract.
+-- `to_pool` meets its contract.
 use borrow.Author.Needs.{needs}
-use Rattle.route_minimization.proofs.AttemptLaws.{pool-laws}
-use Rattle.route_minimization.proofs.attempt.to_pool.Statement.{statement}
-use Rattle.route_minimization.proofs.attempt.to_pool.Tie as tie
+use Rattle.route_attempt.proofs.AttemptLaws.{pool-laws}
+use Rattle.route_attempt.proofs.to_pool.Statement.{statement}
+use Rattle.route_attempt.proofs.to_pool.Tie as tie
 
 offset-requires : tie.Need-offset-requires
 offset-requires c κs = search needs

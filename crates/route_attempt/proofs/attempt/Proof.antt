@@ -1,11 +1,11 @@
--- `attempt::attempt` meets its contract.
+-- `attempt` meets its contract.
 use Prim.Native.Nat.{_≤_}
 use native.Mathlib.Omega.{arith}
 use borrow.Author.Needs.{needs}
 use lib.ListN.{length}
-use Rattle.route_minimization.proofs.AttemptLaws.{attempting-with, scratch-room, restorable, restored-lengths, restored-stops, kept-tried, accepted-leaves}
-use Rattle.route_minimization.proofs.attempt.attempt.Statement.{statement}
-use Rattle.route_minimization.proofs.attempt.attempt.Tie as tie
+use Rattle.route_attempt.proofs.AttemptLaws.{attempting-with, scratch-room, restorable, restored-lengths, restored-stops, kept-tried, accepted-leaves}
+use Rattle.route_attempt.proofs.attempt.Statement.{statement}
+use Rattle.route_attempt.proofs.attempt.Tie as tie
 
 save-requires : tie.Need-save-requires
 save-requires c κs = search needs

@@ -15,9 +15,9 @@ use Rattle.local_search.specs.declared.rounds.Counts.{Counts}
 use Rattle.local_search.specs.Planned.{Planned}
 use Rattle.local_search.specs.Rounds.{Tried}
 use Rattle.local_search.specs.Search.{Ends-with-0}
-use Rattle.route_minimization.specs.declared.attempt.Attempted.{Attempted}
-use Rattle.route_minimization.specs.declared.attempt.Attempted.the-variants.{Kept, Accepted}
-use Rattle.route_minimization.specs.Minimize.{if-cheaper}
+use Rattle.route_attempt.specs.declared.Attempted.{Attempted}
+use Rattle.route_attempt.specs.declared.Attempted.the-variants.{Kept, Accepted}
+use Rattle.route_attempt.specs.Attempt.{if-cheaper}
 
 -- an attempt at a route of a plan that fills both slices
 pub record Attempting (p : Problem) (tape : List ℕ) (needed : Bool) (limit : ℕ) (lengths stops work : List ℕ) (cells : List Float) (counts : Counts) : Type 0 where

@@ -1,8 +1,8 @@
--- `attempt::try_rest` meets its contract.
+-- `try_rest` meets its contract.
 use borrow.Author.Needs.{needs}
-use Rattle.route_minimization.proofs.AttemptLaws.{done-stops, judged-failed, judged-cheaper, judged-dearer}
-use Rattle.route_minimization.proofs.attempt.try_rest.Statement.{statement}
-use Rattle.route_minimization.proofs.attempt.try_rest.Tie as tie
+use Rattle.route_attempt.proofs.AttemptLaws.{done-stops, judged-failed, judged-cheaper, judged-dearer}
+use Rattle.route_attempt.proofs.try_rest.Statement.{statement}
+use Rattle.route_attempt.proofs.try_rest.Tie as tie
 
 empty-pool-requires : tie.Need-empty-pool-requires
 empty-pool-requires c κs = search needs

@@ -1,8 +1,8 @@
--- `attempt::is_cheaper` meets its contract.
+-- `is_cheaper` meets its contract.
 use borrow.Author.Needs.{needs}
-use Rattle.route_minimization.proofs.AttemptLaws.{cheaper-is}
-use Rattle.route_minimization.proofs.attempt.is_cheaper.Statement.{statement}
-use Rattle.route_minimization.proofs.attempt.is_cheaper.Tie as tie
+use Rattle.route_attempt.proofs.AttemptLaws.{cheaper-is}
+use Rattle.route_attempt.proofs.is_cheaper.Statement.{statement}
+use Rattle.route_attempt.proofs.is_cheaper.Tie as tie
 
 plan-cost-requires : tie.Need-plan-cost-requires
 plan-cost-requires c κs = search needs
