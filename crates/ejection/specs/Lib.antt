@@ -1,11 +1,7 @@
 -- The ejection. A file uses only files above it in this list.
 -- one stop ejected, else two
 pub mod Eject
--- its parts, a definition for each smaller function
-pub mod Pass
 -- what the functions ask for
 pub mod Asked
 -- what it finds lies in the plan and is feasible, and no stop is lost
 pub mod Ejected
--- the ejection made on the plan and on the pool
-pub mod Made

@@ -6,9 +6,6 @@ ghost use Rattle.models.specs.Problem.{Stops};
 ghost use Rattle.ejection.specs.Eject.{kept, failures-at, failure-sum, chosen, fails-more, outranks};
 ghost use Rattle.ejection.specs.Asked.{Counted};
 
-pub mod make;
-pub mod search;
-
 // Who leaves a route and where the popped stop goes: the sum of their failures, what the insertion costs, the route, the two places in it
 // (the same one twice where one stop leaves), and the position in the kept part.
 pub struct Ejection {

@@ -11,3 +11,7 @@ pub mod Placing
 pub mod Pooled
 -- the state as the code holds it
 pub mod Running
+-- every definition, opened for theorems by computation
+pub mod Opened
+-- the pool computed on small plans
+pub mod Examples

@@ -1,4 +1,4 @@
--- The pool's state as the code holds it, what the loop asks for, and what an attempt says. Assumes nothing.
+-- The pool's state as the code holds it, what the loop asks for, and what a place for a stop changes. Assumes nothing.
 use Prim.Native.Nat.{ℕ, _+_, _≤_, _<_, _^_}
 use mathlib.Core.Path.{_≡_}
 use mathlib.Core.Bool.{Bool, true, false}
@@ -12,15 +12,10 @@ use Rattle.evaluation.specs.Check.{route-checks-needed}
 use Rattle.plan.specs.Plan.{Plan, Lent, split, put-in}
 use Rattle.local_search.specs.declared.rounds.Counts.{Counts}
 use Rattle.local_search.specs.declared.route.Insertion.{Insertion}
-use Rattle.local_search.specs.Rounds.{Tried}
 use Rattle.local_search.specs.Planned.{Planned}
 use Rattle.ejection.specs.Asked.{Counted}
-use Rattle.ejection.specs.Made.{stack}
-use Rattle.ejection_pool.specs.declared.Emptied.{Emptied}
-use Rattle.ejection_pool.specs.declared.Emptied.the-variants.{Failed, Done}
-use Rattle.ejection_pool.specs.declared.Turn.{Turn as Ended}
-use Rattle.ejection_pool.specs.declared.Turn.the-variants.{Stuck, More}
-use Rattle.ejection_pool.specs.Pool.{Allowance, State, Turn, stop, more, failed}
+use Rattle.ejection_made.specs.Made.{stack}
+use Rattle.ejection_pool.specs.Pool.{Allowance, State}
 use Rattle.ejection_pool.specs.Pooled.{Pooled}
 
 -- the plan in its two slices, the pool in its first cells
@@ -59,7 +54,7 @@ pub record Forcing (p : Problem) (tape : List ℕ) (needed : Bool) (lengths stop
   pub step : counts .steps + 1 < 2 ^ 64
   pub draws : counts .draws + 500 < 2 ^ 64
 
--- ---- what the functions say
+-- ---- a stop placed
 
 -- the cheapest place, where there is one
 abbrev pub is-there : Option Insertion → Bool
@@ -73,13 +68,3 @@ put-best c (some x) routes = put-in (x .route) (x .pos) c routes
 abbrev pub one-more : Bool → ℕ
 one-more true = 1
 one-more false = 0
-
--- how a turn ends, with the plan, the pool's cells and the failures as they are then
-abbrev pub as-turn : Ended → Plan → List ℕ → List ℕ → Turn
-as-turn (Stuck n) plan pool failures = stop (failed n)
-as-turn (More m n) plan pool failures = more (record { routes = plan; pool = stack pool m; failures = failures; counts = n })
-
--- what an attempt says: the plan that is left, where the pool is emptied
-abbrev pub said : Emptied → Plan → Tried
-said (Failed n) plan = record { plan = none; counts = n }
-said (Done n) plan = record { plan = some plan; counts = n }

@@ -1,11 +1,12 @@
 -- Every way that a turn of the pool can go, and the rule of proof for an attempt: what must hold at every turn so that a property holds at the
 -- end. Assumes nothing.
-use Prim.Native.Nat.{ℕ, zero, suc, _+_, _≤_}
-use mathlib.Core.Path.{_≡_, refl}
+use Prim.Native.Nat.{ℕ, zero, suc, _+_, _≤_, _<_}
+use mathlib.Core.Path.{_≡_, refl, ap, _∙_}
 use mathlib.Core.List.{List, [], _∷_, _++_, reverse}
 use mathlib.Core.Option.{Option, none, some}
 use native.Mathlib.Nat.{le-refl}
 use native.Mathlib.Omega.{arith}
+use borrow.Author.Tests.{le-leb, lt-leb}
 use lib.ListN.{getD, set}
 use lib.Dec.{leb}
 use Rattle.laws.specs.Loops.{cond-rule}
@@ -88,3 +89,24 @@ module _ (given : Allowance) (p : Problem) (left : ℕ) (s : State) where
   pub pool-stop : (t : Tried) → turn given p s (s .pool) ≡ stop t → run-pool given p (suc left) s ≡ t
   unfolding run-pool turned
   pool-stop t e = rw e
+
+-- ---- the ways that the loop ends
+
+module _ (given : Allowance) (p : Problem) (s : State) where
+  -- the pool is empty, whatever steps are left
+  pub emptied : (left : ℕ) → s .pool ≡ [] → run-pool given p left s ≡ record { plan = some (s .routes); counts = s .counts }
+  emptied zero e = (unfold run-pool at-limit in ap (at-limit s) e)
+  emptied (suc left) e = pool-stop given p left s (record { plan = some (s .routes); counts = s .counts }) (unfold turn in ap (turn given p s) e)
+
+  module _ (c : ℕ) (rest : List ℕ) (e : s .pool ≡ c ∷ rest) where
+    pub at-the-limit : run-pool given p zero s ≡ failed (s .counts)
+    unfolding run-pool at-limit
+    at-the-limit = ap (at-limit s) e
+
+    pub clocked : given .clock ≤ s .counts .steps → turn given p s (s .pool) ≡ stop (failed (s .counts))
+    unfolding turn
+    clocked h = ap (turn given p s) e ∙ rw (le-leb (given .clock) (s .counts .steps) h)
+
+    pub goes-on : s .counts .steps < given .clock → turn given p s (s .pool) ≡ after-cheapest (given .tape) p s c rest (cheapest p (s .routes) c)
+    unfolding turn
+    goes-on h = ap (turn given p s) e ∙ rw (lt-leb (given .clock) (s .counts .steps) h)

@@ -16,13 +16,13 @@ use Rattle.local_search.specs.Route.{cost}
 use Rattle.local_search.specs.Rounds.{Tried, try-each}
 use Rattle.local_search.specs.Search.{Refused, Taken, but-last}
 use Rattle.local_search.proofs.NextLaws.{in-use, next-kept, next-refused, next-accepted, next-taken}
-use Rattle.route_minimization.specs.declared.attempt.Attempted.{Attempted}
-use Rattle.route_minimization.specs.declared.attempt.Attempted.the-variants.{Kept, Accepted}
+use Rattle.route_attempt.specs.declared.Attempted.{Attempted}
+use Rattle.route_attempt.specs.declared.Attempted.the-variants.{Kept, Accepted}
 use Rattle.ejection_pool.specs.Pool.{Allowance}
-use Rattle.route_minimization.specs.Minimize.{attempt}
+use Rattle.route_attempt.specs.Attempt.{attempt}
 use Rattle.route_minimization.specs.Minimized.{attempt-reduces}
-use Rattle.route_minimization.specs.Attempting.{Leaves, tried}
-use Rattle.route_minimization.proofs.AttemptLaws.{cost-whole}
+use Rattle.route_attempt.specs.Attempting.{Leaves, tried}
+use Rattle.route_attempt.proofs.AttemptLaws.{cost-whole}
 
 -- ---- the start of a round
 

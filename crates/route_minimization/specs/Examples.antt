@@ -17,7 +17,7 @@ use Rattle.plan.specs.Plan.{Plan}
 use Rattle.local_search.specs.Feasible.{feasible}
 use Rattle.local_search.specs.declared.rounds.Counts.{Counts}
 use Rattle.quick_test.specs.Quick.{departures, latest-arrivals, may-fit}
-use Rattle.ejection_pool.specs.Pool.{Allowance, more, turn, empty-into}
+use Rattle.ejection_pool.specs.Pool.{Allowance}
 use Rattle.route_minimization.specs.Minimize.{minimize-routes}
 use Rattle.route_minimization.specs.Opened.{opened}
 
@@ -66,25 +66,6 @@ stopped-early = refl
 stopped-late : minimize-routes (with 5 10 (7 ∷ [])) (sheet (LimitAt (num 24))) two-routes ≡ record { plan = two-routes; counts = counted 10 0 }
 unfolding opened sheet two-routes
 stopped-late = refl
-
--- ---- three stops of demands a, b and c, 10 apart, with no windows
-
-loads : ℕ → ℕ → ℕ → Problem
-loads a b c =
-    problem 4 (pos 0 ∷ pos a ∷ pos b ∷ pos c ∷ []) (replicate 4 (num 0)) (replicate 4 (num 0)) (replicate 4 (num 0)) (replicate 4 (num 0)) (replicate 4 0)
-    (replicate 16 (num 10)) [] (van NoLimit)
-
--- two stops leave for the popped one; the later of them is on top of the pool
-later-on-top : turn (with 5 5 (7 ∷ [])) (loads 5 5 6) (record { routes = (1 ∷ 2 ∷ []) ∷ []; pool = 3 ∷ []; failures = replicate 4 1; counts = counted 0 0 }) (3 ∷ [])
-    ≡ more (record { routes = (3 ∷ []) ∷ []; pool = 2 ∷ 1 ∷ []; failures = 1 ∷ 1 ∷ 1 ∷ 2 ∷ []; counts = counted 1 0 })
-unfolding opened loads
-later-on-top = refl
-
--- An attempt after others: failures are 1 for every place again, so the stops of both routes fail alike and the first route's leaves. 500 words.
-fresh-failures : empty-into (with 5 50 (1 ∷ [])) (loads 4 6 9) two-routes (3 ∷ []) (counted 3 0)
-    ≡ record { plan = some ((3 ∷ []) ∷ (1 ∷ 2 ∷ []) ∷ []); counts = counted 5 500 }
-unfolding opened loads two-routes
-fresh-failures = refl
 
 -- ---- the quick test is no mere shortcut
 

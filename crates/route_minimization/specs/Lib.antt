@@ -1,10 +1,8 @@
 -- Route minimisation with an ejection pool. A file uses only files above it in this list.
--- the attempt at a route, and the search
+-- the search
 pub mod Minimize
 -- what an attempt and the search keep
 pub mod Minimized
--- an attempt as the code makes it
-pub mod Attempting
 -- what the search asks for
 pub mod Minimizing
 -- the cost falls

@@ -25,7 +25,8 @@ use Rattle.local_search.specs.Rounds.{Result, reduce}
 use Rattle.local_search.specs.Reduced.{Better, Bounded, Reduces, reduces-fewer, triangle, Ended, reduce-ended}
 use Rattle.ejection_pool.specs.Pool.{Allowance, empty-into}
 use Rattle.ejection_pool.specs.Placing.{pool-bounded, Placing, pool-keeps}
-use Rattle.route_minimization.specs.Minimize.{if-cheaper, attempt, minimize-routes}
+use Rattle.route_attempt.specs.Attempt.{if-cheaper, attempt}
+use Rattle.route_minimization.specs.Minimize.{minimize-routes}
 
 -- ---- an attempt
 

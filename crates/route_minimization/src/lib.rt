@@ -7,7 +7,8 @@ ghost use Rattle.evaluation.specs.Check.{route-checks-needed};
 ghost use Rattle.plan.specs.Plan.{split};
 ghost use Rattle.local_search.specs.Rounds.{reduce};
 ghost use Rattle.local_search.specs.Search.{Answers};
-ghost use Rattle.route_minimization.specs.Minimize.{attempt, minimize-routes};
+ghost use Rattle.route_attempt.specs.Attempt.{attempt};
+ghost use Rattle.route_minimization.specs.Minimize.{minimize-routes};
 ghost use Rattle.ejection_pool.specs.Running.{allowance};
 ghost use Rattle.route_minimization.specs.Minimizing.{Searching};
 use crate::round::begin;
@@ -20,7 +21,6 @@ use local_search::rounds::Reduction;
 use models::vehicle::Vehicle;
 use plan::order::Pick;
 
-pub mod attempt;
 pub mod round;
 
 // Rounds of attempts, begun again from the shortest route as soon as one is accepted.

@@ -9,11 +9,9 @@ ghost use Rattle.local_search.specs.Planned.{Planned};
 ghost use Rattle.local_search.specs.Route.{cost};
 ghost use Rattle.local_search.specs.Rounds.{try-each};
 ghost use Rattle.local_search.specs.Search.{but-last, tried-next, Next-leaves};
-ghost use Rattle.route_minimization.specs.Minimize.{attempt};
+ghost use Rattle.route_attempt.specs.Attempt.{attempt};
 ghost use Rattle.ejection_pool.specs.Running.{allowance};
-ghost use Rattle.route_minimization.specs.Attempting.{Attempting};
-use crate::attempt::Attempted;
-use crate::attempt::attempt;
+ghost use Rattle.route_attempt.specs.Attempting.{Attempting};
 use local_search::rounds::Counts;
 use local_search::rounds::Next;
 use local_search::route::plan_cost;
@@ -21,6 +19,8 @@ use models::vehicle::Vehicle;
 use plan::drop_empty;
 use plan::order::Pick;
 use plan::order::next_pick;
+use route_attempt::Attempted;
+use route_attempt::attempt;
 
 // What a round starts with: how many routes there are, and what they cost.
 pub struct Round {

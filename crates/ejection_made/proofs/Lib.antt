@@ -1,0 +1,3 @@
+-- What the functions' proofs lean on.
+-- the ejection made on the plan and on the pool
+pub mod MakeLaws

@@ -1,0 +1,3 @@
+-- What the functions' proofs lean on.
+-- the positions of what is kept
+pub mod PositionLaws

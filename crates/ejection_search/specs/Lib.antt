@@ -1,0 +1,3 @@
+-- The search for the best ejection.
+-- one stop or two, by a flag
+pub mod Some

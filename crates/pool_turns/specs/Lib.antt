@@ -1,0 +1,3 @@
+-- The turns of the pool.
+-- how a turn and an attempt end
+pub mod Ends

@@ -1,0 +1,5 @@
+-- Laws that this crate's proofs cite.
+-- a move as it is drawn
+pub mod MoveLaws
+-- the loop over the moves
+pub mod PerturbLaws
