@@ -1,5 +1,3 @@
-// Reads a sheet, section by section, into lent slices.
+// Reads the places and the roads of a sheet, section by section, into lent slices.
 pub mod places;
 pub mod roads;
-pub mod routes;
-pub mod run;

@@ -4,11 +4,11 @@ use mathlib.Core.Path.{_≡_, _∙_}
 use native.Mathlib.Omega.{arith}
 use lib.ListN.{length, length-set}
 use borrow.Author.Needs.{needs}
-use Rattle.sheet_reader.proofs.RouteLaws.{route-at, route-refused, plan-behind, routes-start, route-few, routes-end, routes-fault, routes-turn}
+use Rattle.sheet_routes.proofs.RouteLaws.{route-at, route-refused, plan-behind, routes-start, route-few, routes-end, routes-fault, routes-turn}
 use Rattle.sheet_format.specs.Form.{route-lines, slices-of}
 use Rattle.sheet_text.specs.Text.{map-reading}
-use Rattle.sheet_reader.proofs.routes.route_rows.Statement.{statement}
-use Rattle.sheet_reader.proofs.routes.route_rows.Tie as tie
+use Rattle.sheet_routes.proofs.routes.route_rows.Statement.{statement}
+use Rattle.sheet_routes.proofs.routes.route_rows.Tie as tie
 
 abbrev Inv-loop : tie.InvT-loop
 Inv-loop lengths₀ stops₀ s at n a₀ r₀ used₀ left₀ lengths stops a r used left = (map-reading slices-of (route-lines n 64 s at) ≡ map-reading (plan-behind r lengths used stops) (route-lines left (64 - used) s a)) × (used ≤ 64) × (r + left ≡ n) × (length lengths ≡ length lengths₀) × (length stops ≡ length stops₀)

@@ -1,11 +1,12 @@
 -- `routes` meets its contract. Assumes nothing.
 use native.Mathlib.Omega.{arith}
 use borrow.Author.Needs.{needs}
-use Rattle.sheet_reader.proofs.SectionLaws.{plan-within, sections, count-within}
+use Rattle.sheet_reader.proofs.SectionLaws.{sections, count-within}
+use Rattle.sheet_routes.proofs.RunLaws.{plan-within}
 use Rattle.sheet_format.specs.Form.{routes}
 use Rattle.sheet_text.proofs.ReadLaws.{readings}
-use Rattle.sheet_reader.proofs.routes.routes.Statement.{statement}
-use Rattle.sheet_reader.proofs.routes.routes.Tie as tie
+use Rattle.sheet_routes.proofs.routes.routes.Statement.{statement}
+use Rattle.sheet_routes.proofs.routes.routes.Tie as tie
 
 slice-aggregate-heading : tie.Need-slice-aggregate-heading
 slice-aggregate-heading c = search needs

@@ -17,9 +17,10 @@ use Rattle.sheet_text.specs.declared.words.Count.{Count}
 use Rattle.sheet_text.specs.declared.words.Count.the-variants.{Got as CountGot, Refused as CountRefused}
 use Rattle.sheet_text.proofs.ReadLaws.{told}
 use Rattle.sheet_format.specs.Form.{stop-cell, route-line, route-lines, slices-of}
-use Rattle.sheet_reader.specs.Cells.{front, route-behind, filled-route}
+use Rattle.sheet_reader.specs.Cells.{front}
+use Rattle.sheet_routes.specs.Routes.{route-behind, filled-route}
 use Rattle.sheet_reader.proofs.FillLaws.{got-of, refused-of, cell-filled, next-map, map-map, map-same}
 use Rattle.sheet_reader.proofs.SectionLaws.{next-rule}
 
 -- ---- a route's line
 

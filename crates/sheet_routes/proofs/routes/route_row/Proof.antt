@@ -1,10 +1,10 @@
 -- `route_row` meets its contract. Assumes nothing.
 use borrow.Author.Needs.{needs}
-use Rattle.sheet_reader.proofs.RouteLaws.{gap-at, gap-bad, no-length, too-many, no-gap, no-stops, route-got}
+use Rattle.sheet_routes.proofs.RouteLaws.{gap-at, gap-bad, no-length, too-many, no-gap, no-stops, route-got}
 use Rattle.sheet_reader.proofs.SectionLaws.{filled-at, filled-bad}
 use Rattle.sheet_text.proofs.ReadLaws.{number-at, number-bad}
-use Rattle.sheet_reader.proofs.routes.route_row.Statement.{statement}
-use Rattle.sheet_reader.proofs.routes.route_row.Tie as tie
+use Rattle.sheet_routes.proofs.routes.route_row.Statement.{statement}
+use Rattle.sheet_routes.proofs.routes.route_row.Tie as tie
 
 number-requires : tie.Need-number-requires
 number-requires c κs = search needs
