@@ -21,7 +21,7 @@ use Rattle.local_search.specs.declared.rounds.Reduction.{Reduction}
 use Rattle.local_search.specs.Rounds.{Result}
 use Rattle.ejection_pool.specs.Pool.{Allowance}
 use Rattle.route_minimization.specs.Minimize.{minimize-routes}
-use Rattle.route_elimination.specs.Eliminate.{eliminate-routes}
+use Rattle.elimination_moves.specs.Eliminate.{eliminate-routes}
 use Rattle.entry.specs.Table.{Work, refusal}
 use Rattle.entry.specs.Given.{problem-inputs, route-inputs, schedule-inputs, minimise-inputs, eliminate-inputs}
 
