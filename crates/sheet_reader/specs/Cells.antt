@@ -1,19 +1,16 @@
 -- How lent slices hold what is read: in their first cells, one after the other. Assumes nothing.
-use Prim.Native.Nat.{ℕ, _*_, _≤_}
+use Prim.Native.Nat.{ℕ, _≤_}
 use mathlib.Core.Path.{_≡_}
 use mathlib.Core.List.{List, [], _∷_, _++_, map}
 use lib.ListN.{length, take}
 use lib.IntN.{ℤ}
 use lib.Ieee.{Float}
-use Rattle.models.specs.Problem.{DistanceMatrix, matrix}
 use Rattle.sheet_text.specs.Text.{Reading, refused, got}
 use Rattle.sheet_text.specs.declared.numbers.Next.{Next}
 use Rattle.sheet_text.specs.declared.numbers.Next.the-variants.{At as NextAt, Bad as NextBad}
 use Rattle.sheet_text.specs.declared.words.Count.{Count}
 use Rattle.sheet_text.specs.declared.words.Count.the-variants.{Got as CountGot, Refused as CountRefused}
 use Rattle.sheet_format.specs.declared.places.Place.{Place}
-use Rattle.sheet_reader.specs.declared.roads.Section.{Section}
-use Rattle.sheet_reader.specs.declared.roads.Section.the-variants.{At as SectionAt, Refused as SectionRefused}
 use Rattle.sheet_format.specs.Form.{ready-cell, due-cell, penalty-cell, flags-cell}
 
 -- ---- numbers
@@ -92,24 +89,10 @@ abbrev pub filled : {S : Type 0} → S → Next → Reading S
 filled cells (NextAt i) = got cells i
 filled cells NextBad = refused 11
 
-abbrev pub filled-section : {S : Type 0} → S → Section → Reading S
-filled-section cells (SectionAt i) = got cells i
-filled-section cells (SectionRefused k) = refused k
-
 -- where a count was read it is at most so many
 abbrev pub AtMost : ℕ → Count → Type 0
 AtMost most (CountGot n i) = n ≤ most
 AtMost most (CountRefused k) = Unit
-
--- so many rows of as many cells
-abbrev pub filled-square : List Float → Count → Reading (List Float)
-filled-square cells (CountGot n i) = got (take (n * n) cells) i
-filled-square cells (CountRefused k) = refused k
-
--- n rows of distances, and so many of times
-abbrev pub filled-roads : ℕ → List Float → List Float → Count → Reading DistanceMatrix
-filled-roads n distances times (CountGot m i) = got (matrix n (take (n * n) distances) (take (m * m) times)) i
-filled-roads n distances times (CountRefused k) = refused k
 
 -- so many places
 abbrev pub filled-places : Columns → Count → Reading Columns

@@ -1,3 +1,2 @@
-// Reads the places and the roads of a sheet, section by section, into lent slices.
+// Reads the places of a sheet into lent slices.
 pub mod places;
-pub mod roads;

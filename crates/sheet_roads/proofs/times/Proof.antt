@@ -1,10 +1,11 @@
 -- `times` meets its contract. Assumes nothing.
 use borrow.Author.Needs.{needs}
-use Rattle.sheet_reader.proofs.SectionLaws.{times-laws, sections}
+use Rattle.sheet_reader.proofs.SectionLaws.{sections}
+use Rattle.sheet_roads.proofs.RoadLaws.{times-laws}
 use Rattle.sheet_format.specs.Form.{times}
 use Rattle.sheet_text.proofs.ReadLaws.{readings}
-use Rattle.sheet_reader.proofs.roads.times.Statement.{statement}
-use Rattle.sheet_reader.proofs.roads.times.Tie as tie
+use Rattle.sheet_roads.proofs.times.Statement.{statement}
+use Rattle.sheet_roads.proofs.times.Tie as tie
 
 slice-aggregate-heading : tie.Need-slice-aggregate-heading
 slice-aggregate-heading c = search needs

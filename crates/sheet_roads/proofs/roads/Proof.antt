@@ -1,8 +1,8 @@
 -- `roads` meets its contract. Assumes nothing.
 use borrow.Author.Needs.{needs}
-use Rattle.sheet_reader.proofs.SectionLaws.{no-distances, both-roads}
-use Rattle.sheet_reader.proofs.roads.roads.Statement.{statement}
-use Rattle.sheet_reader.proofs.roads.roads.Tie as tie
+use Rattle.sheet_roads.proofs.RoadLaws.{no-distances, both-roads}
+use Rattle.sheet_roads.proofs.roads.Statement.{statement}
+use Rattle.sheet_roads.proofs.roads.Tie as tie
 
 distances-requires : tie.Need-distances-requires
 distances-requires c κs = search needs

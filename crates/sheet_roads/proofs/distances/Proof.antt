@@ -1,10 +1,10 @@
 -- `distances` meets its contract. Assumes nothing.
 use borrow.Author.Needs.{needs}
 use Rattle.sheet_format.specs.Form.{distances}
 use Rattle.sheet_reader.proofs.SectionLaws.{sections}
 use Rattle.sheet_text.proofs.ReadLaws.{readings}
-use Rattle.sheet_reader.proofs.roads.distances.Statement.{statement}
-use Rattle.sheet_reader.proofs.roads.distances.Tie as tie
+use Rattle.sheet_roads.proofs.distances.Statement.{statement}
+use Rattle.sheet_roads.proofs.distances.Tie as tie
 
 slice-aggregate-heading : tie.Need-slice-aggregate-heading
 slice-aggregate-heading c = search needs
