@@ -12,11 +12,11 @@ use Rattle.floats.specs.Binary64.{0f}
 use Rattle.models.specs.declared.customer.TimeWindow.{TimeWindow}
 use Rattle.models.specs.declared.customer.Window.{Window}
 use Rattle.models.specs.declared.customer.Window.the-variants.{None as NoWindow, Is as WindowIs}
-use Rattle.evaluation.specs.declared.schedule.Taken.{Taken}
-use Rattle.evaluation.specs.declared.schedule.Taken.the-variants.{No as NotTaken, At as TakenAt}
-use Rattle.evaluation.specs.declared.eval.RouteEval.{RouteEval}
-use Rattle.evaluation.specs.declared.eval.Eval.{Eval}
-use Rattle.evaluation.specs.declared.eval.Eval.the-variants.{Infeasible, Feasible}
+use Rattle.labels.specs.declared.Taken.{Taken}
+use Rattle.labels.specs.declared.Taken.the-variants.{No as NotTaken, At as TakenAt}
+use Rattle.break_clock.specs.declared.route_eval.RouteEval.{RouteEval}
+use Rattle.break_clock.specs.declared.route_eval.Eval.{Eval}
+use Rattle.break_clock.specs.declared.route_eval.Eval.the-variants.{Infeasible, Feasible}
 use Rattle.plan.specs.Plan.{Slices}
 use Rattle.local_search.specs.declared.rounds.Reduction.{Reduction}
 use Rattle.planner.specs.Calls.{Answer, refused, answered, Reply}

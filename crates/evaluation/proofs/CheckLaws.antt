@@ -2,20 +2,19 @@
 use Prim.Native.Nat.{ℕ, _+_, _-_, _<_, _≤_}
 use native.Mathlib.Omega.{arith}
 use mathlib.Core.Path.{_≡_, refl, sym, ap, subst, _∙_}
-use mathlib.Core.Bool.{Bool, true, false, cond, not, _&&_, _||_}
+use mathlib.Core.Bool.{Bool, true, false}
 use mathlib.Core.List.{List}
 use lib.ListN.{length, getD, take, drop}
 use lib.Ieee.{Float}
-use Rattle.floats.specs.Binary64.{_⊕_, 0f}
+use Rattle.floats.specs.Binary64.{_⊕_}
 use Rattle.laws.specs.All.{All, all-take}
 use Rattle.laws.specs.Edits.{insert-at, all-insert-at}
 use Rattle.laws.specs.Searches.{any, any-skip, any-hit, any-end}
-use Rattle.laws.specs.Walks.{walk, Walking, walking-start, walking-on, walking-stuck, walking-end, walk-insert, walk-rule}
+use Rattle.laws.specs.Walks.{Walking, walking-start, walking-on, walking-stuck, walking-end, walk-insert, walk-rule}
 use Rattle.models.specs.declared.customer.TimeWindow.{TimeWindow}
 use Rattle.models.specs.declared.customer.Window.the-variants.{None as NoWindow, Is as WindowIs}
 use Rattle.models.specs.declared.customer.Penalty.the-variants.{None as NoPenalty, Of as PenaltyOf}
 use Rattle.models.specs.declared.customer.Customer.{Customer}
-use Rattle.models.specs.declared.vehicle.Rest.{Rest}
 use Rattle.models.specs.declared.vehicle.Rest.the-variants.{None as NoRest, Break}
 use Rattle.models.specs.declared.vehicle.VehicleBreak.{VehicleBreak}
 use Rattle.models.specs.declared.limits.RouteLimits.{RouteLimits}
@@ -30,16 +29,16 @@ use Rattle.evaluation.specs.declared.check.Reached.{Reached}
 use Rattle.evaluation.specs.declared.check.Reached.the-variants.{Late, At as WayAt}
 use Rattle.evaluation.specs.declared.check.Left.{Left}
 use Rattle.evaluation.specs.declared.check.Left.the-variants.{Missed, At as LeftAt}
-use Rattle.evaluation.specs.declared.eval.Eval.{Eval}
-use Rattle.evaluation.specs.declared.eval.Eval.the-variants.{Infeasible}
-use Rattle.evaluation.specs.declared.schedule.Riding.{Riding}
-use Rattle.evaluation.specs.declared.schedule.Ridden.{Ridden}
-use Rattle.evaluation.specs.declared.schedule.Ridden.the-variants.{Stuck as RideStuck, At as RideAt}
-use Rattle.evaluation.specs.Schedule.{schedule, ride-all, ride-home, set-out as ride-out}
+use Rattle.break_clock.specs.declared.route_eval.Eval.{Eval}
+use Rattle.break_clock.specs.declared.route_eval.Eval.the-variants.{Infeasible}
+use Rattle.break_clock.specs.declared.schedule.Riding.{Riding}
+use Rattle.break_clock.specs.declared.schedule.Ridden.{Ridden}
+use Rattle.break_clock.specs.declared.schedule.Ridden.the-variants.{Stuck as RideStuck, At as RideAt}
+use Rattle.break_clock.specs.Schedule.{schedule, ride-all, ride-home, set-out as ride-out}
 use Rattle.evaluation.specs.Eval.{is-feasible, limited}
 use Rattle.evaluation.specs.Check.{soft, has-time-windows, has-soft-windows, departure-in, departure, set-out, reached, reach, onward, reach-all, home-allowed, homeward, feasible-with, route-feasible}
-use Rattle.evaluation.proofs.StopLaws.{stops-all, tail-part}
-use Rattle.evaluation.proofs.ScheduleLaws.{schedule-stuck, schedule-home}
+use Rattle.break_clock.proofs.StopLaws.{stops-all, tail-part}
+use Rattle.break_clock.proofs.ScheduleLaws.{schedule-stuck, schedule-home}
 
 -- ---- a search over the flags: none before i has passed
 

@@ -1,15 +1,13 @@
 -- Laws of specs/Eval, each from the facts that the code has where it needs it. Assumes nothing.
 use Prim.Native.Nat.{ℕ, _+_, _<_, _≤_}
-use native.Mathlib.Omega.{arith}
 use mathlib.Core.Path.{_≡_, refl, sym, ap, subst, _∙_}
-use mathlib.Core.Bool.{Bool, true, false, cond}
+use mathlib.Core.Bool.{Bool, true, false}
 use mathlib.Core.List.{List}
 use lib.ListN.{length, getD}
 use lib.Ieee.{Float}
-use Rattle.floats.specs.Binary64.{_⊕_, 0f, +∞}
-use Rattle.laws.specs.Walks.{walk, Walking, walking-start, walking-on, walking-stuck, walking-end, walk-rule}
+use Rattle.floats.specs.Binary64.{_⊕_, +∞}
+use Rattle.laws.specs.Walks.{Walking, walking-start, walking-on, walking-stuck, walking-end, walk-rule}
 use Rattle.models.specs.declared.customer.Customer.{Customer}
-use Rattle.models.specs.declared.vehicle.Rest.{Rest}
 use Rattle.models.specs.declared.vehicle.Rest.the-variants.{None as NoRest, Break}
 use Rattle.models.specs.declared.vehicle.VehicleBreak.{VehicleBreak}
 use Rattle.models.specs.declared.limits.RouteLimits.{RouteLimits}
@@ -18,19 +16,21 @@ use Rattle.models.specs.Vehicle.{vehicle-break-new}
 use Rattle.models.specs.RouteLimits.{allow}
 use Rattle.models.specs.Problem.{DistanceMatrix, matrix, Fit, Stops}
 use Rattle.distance.specs.Matrix.{get, travel-time}
-use Rattle.evaluation.specs.declared.eval.RouteEval.{RouteEval}
-use Rattle.evaluation.specs.declared.eval.Eval.{Eval}
-use Rattle.evaluation.specs.declared.eval.Eval.the-variants.{Infeasible, Feasible}
+use Rattle.break_clock.specs.declared.route_eval.RouteEval.{RouteEval}
+use Rattle.break_clock.specs.declared.route_eval.Eval.{Eval}
+use Rattle.break_clock.specs.declared.route_eval.Eval.the-variants.{Infeasible, Feasible}
 use Rattle.evaluation.specs.declared.eval.Walk.{Walk}
 use Rattle.evaluation.specs.declared.eval.Walked.{Walked}
 use Rattle.evaluation.specs.declared.eval.Walked.the-variants.{Late, At as WalkAt}
-use Rattle.evaluation.specs.declared.schedule.Taken.the-variants.{No as NotTaken}
-use Rattle.evaluation.specs.declared.schedule.Label.{Label}
-use Rattle.evaluation.specs.declared.schedule.Served.{Served}
-use Rattle.evaluation.specs.declared.schedule.Served.the-variants.{Dead, Live}
-use Rattle.evaluation.specs.Schedule.{serve-at, ended, schedule}
-use Rattle.evaluation.specs.Eval.{priced-distance, limited, set-out, walked, drive, onward, drive-all, home, homeward, eval-with, route-eval, worth, effective-cost}
-use Rattle.evaluation.proofs.StopLaws.{stops-all}
+use Rattle.labels.specs.declared.Taken.the-variants.{No as NotTaken}
+use Rattle.labels.specs.declared.Label.{Label}
+use Rattle.labels.specs.declared.Served.{Served}
+use Rattle.labels.specs.declared.Served.the-variants.{Dead, Live}
+use Rattle.labels.specs.Labels.{serve-at}
+use Rattle.break_clock.specs.Schedule.{ended, schedule}
+use Rattle.break_clock.specs.RouteEval.{priced-distance}
+use Rattle.evaluation.specs.Eval.{limited, set-out, walked, drive, onward, drive-all, home, homeward, eval-with, route-eval, worth, effective-cost}
+use Rattle.break_clock.proofs.StopLaws.{stops-all}
 
 -- ---- an evaluation and the limits
 

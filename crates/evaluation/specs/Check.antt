@@ -1,7 +1,7 @@
 -- Whether a route passes (evaluation/mod.rs; "One stop, one route"). Assumes nothing.
 use Prim.Native.Nat.{ℕ}
 use mathlib.Core.List.{List}
-use mathlib.Core.Bool.{Bool, true, false, cond, not, _&&_, _||_}
+use mathlib.Core.Bool.{Bool, false, cond, not, _&&_, _||_}
 use lib.Ieee.{Float}
 use Rattle.floats.specs.Binary64.{_⊕_, 0f}
 use Rattle.laws.specs.Searches.{any}
@@ -25,7 +25,7 @@ use Rattle.evaluation.specs.declared.check.Reached.{Reached}
 use Rattle.evaluation.specs.declared.check.Reached.the-variants.{Late, At as WayAt}
 use Rattle.evaluation.specs.declared.check.Left.{Left}
 use Rattle.evaluation.specs.declared.check.Left.the-variants.{Missed, At as LeftAt}
-use Rattle.evaluation.specs.Schedule.{schedule}
+use Rattle.break_clock.specs.Schedule.{schedule}
 use Rattle.evaluation.specs.Eval.{is-feasible, limited}
 
 -- ---- whether the check is needed

@@ -13,20 +13,17 @@ use Rattle.models.specs.Vehicle.{vehicle-break-new}
 use Rattle.models.specs.RouteLimits.{allow}
 use Rattle.models.specs.Problem.{DistanceMatrix}
 use Rattle.distance.specs.Matrix.{get, travel-time}
-use Rattle.evaluation.specs.declared.eval.RouteEval.{RouteEval}
-use Rattle.evaluation.specs.declared.eval.Eval.{Eval}
-use Rattle.evaluation.specs.declared.eval.Eval.the-variants.{Infeasible, Feasible}
+use Rattle.labels.specs.declared.Taken.the-variants.{No as NotTaken}
+use Rattle.labels.specs.declared.Served.{Served}
+use Rattle.labels.specs.declared.Served.the-variants.{Dead, Live}
+use Rattle.labels.specs.Labels.{START, serve-at}
+use Rattle.break_clock.specs.declared.route_eval.Eval.{Eval}
+use Rattle.break_clock.specs.declared.route_eval.Eval.the-variants.{Infeasible, Feasible}
+use Rattle.break_clock.specs.RouteEval.{priced-distance}
+use Rattle.break_clock.specs.Schedule.{ended, schedule}
 use Rattle.evaluation.specs.declared.eval.Walk.{Walk}
 use Rattle.evaluation.specs.declared.eval.Walked.{Walked}
 use Rattle.evaluation.specs.declared.eval.Walked.the-variants.{Late, At as WalkAt}
-use Rattle.evaluation.specs.declared.schedule.Taken.the-variants.{No as NotTaken}
-use Rattle.evaluation.specs.declared.schedule.Served.{Served}
-use Rattle.evaluation.specs.declared.schedule.Served.the-variants.{Dead, Live}
-use Rattle.evaluation.specs.Schedule.{START, serve-at, ended, schedule}
-
--- RouteEval::priced_distance
-abbrev pub priced-distance : RouteEval → Float
-priced-distance e = e .distance ⊕ e .«lateness_cost»
 
 -- `is_some`
 abbrev pub is-feasible : Eval → Bool

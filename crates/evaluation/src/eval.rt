@@ -1,45 +1,24 @@
-// What a route is worth: distance, duration, lateness and its cost, and the break, or that it does not pass.
+// What a route is worth, or that it does not pass.
 ghost use mathlib.Core.Path.{_≡_};
 ghost use Prim.Native.Nat.{_<_};
 ghost use lib.ListN.{length};
 ghost use Rattle.models.specs.Customer.{customers};
 ghost use Rattle.models.specs.Problem.{matrix, Square, Fit, Stops};
-ghost use Rattle.evaluation.specs.Eval.{priced-distance, set-out, drive, drive-all, home, is-feasible, limited, route-eval, effective-cost};
-use crate::schedule::Label;
-use crate::schedule::Served;
-use crate::schedule::Taken;
-use crate::schedule::schedule;
-use crate::schedule::serve_at;
+ghost use Rattle.evaluation.specs.Eval.{set-out, drive, drive-all, home, is-feasible, limited, route-eval, effective-cost};
+use break_clock::route_eval::Eval;
+use break_clock::route_eval::RouteEval;
+use break_clock::schedule::schedule;
 use distance::get;
 use distance::travel_time;
 use floats::infinity;
+use labels::Label;
+use labels::Served;
+use labels::Taken;
+use labels::serve_at;
 use models::customer::customer_at;
 use models::limits::RouteLimits;
 use models::vehicle::Rest;
 use models::vehicle::VehicleBreak;
-
-pub struct RouteEval {
-    pub distance: f64,
-    pub duration: f64,
-    pub lateness: f64,
-    pub lateness_cost: f64,
-    pub rest: Taken,
-}
-
-// `Option<RouteEval>`, and `Option<Scheduled>`, whose fields are the same.
-pub enum Eval {
-    Infeasible,
-    Feasible(RouteEval),
-}
-
-impl RouteEval {
-    // The distance that the route is priced at: its distance and the cost of its lateness.
-    pub fn priced_distance(self) -> f64
-        ensures { λ r. ⌜ r ≡ priced-distance self ⌝ }
-    {
-        self.distance + self.lateness_cost
-    }
-}
 
 // Whether there is an evaluation: `is_some`.
 pub fn is_feasible(e: Eval) -> bool

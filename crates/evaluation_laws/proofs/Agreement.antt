@@ -33,17 +33,18 @@ use Rattle.evaluation.specs.declared.check.Reached.{Reached}
 use Rattle.evaluation.specs.declared.check.Reached.the-variants.{Late as WayLate, At as WayAt}
 use Rattle.evaluation.specs.declared.check.Left.{Left}
 use Rattle.evaluation.specs.declared.check.Left.the-variants.{Missed, At as LeftAt}
-use Rattle.evaluation.specs.declared.eval.Eval.{Eval}
-use Rattle.evaluation.specs.declared.eval.Eval.the-variants.{Infeasible}
+use Rattle.break_clock.specs.declared.route_eval.Eval.{Eval}
+use Rattle.break_clock.specs.declared.route_eval.Eval.the-variants.{Infeasible}
 use Rattle.evaluation.specs.declared.eval.Walk.{Walk}
 use Rattle.evaluation.specs.declared.eval.Walked.{Walked}
 use Rattle.evaluation.specs.declared.eval.Walked.the-variants.{Late as WalkLate, At as WalkAt}
-use Rattle.evaluation.specs.declared.schedule.Taken.{Taken}
-use Rattle.evaluation.specs.declared.schedule.Taken.the-variants.{No as NotTaken}
-use Rattle.evaluation.specs.declared.schedule.Label.{Label}
-use Rattle.evaluation.specs.declared.schedule.Served.{Served}
-use Rattle.evaluation.specs.declared.schedule.Served.the-variants.{Dead, Live}
-use Rattle.evaluation.specs.Schedule.{too-late, in-time, at-window, serve-at, ended, schedule}
+use Rattle.labels.specs.declared.Taken.{Taken}
+use Rattle.labels.specs.declared.Taken.the-variants.{No as NotTaken}
+use Rattle.labels.specs.declared.Label.{Label}
+use Rattle.labels.specs.declared.Served.{Served}
+use Rattle.labels.specs.declared.Served.the-variants.{Dead, Live}
+use Rattle.labels.specs.Labels.{too-late, in-time, at-window, serve-at}
+use Rattle.break_clock.specs.Schedule.{ended, schedule}
 use Rattle.evaluation.specs.Eval.{is-feasible, limited, walked, drive, onward, drive-all, home, homeward, eval-with, route-eval, set-out}
 use Rattle.evaluation.specs.Check.{has-time-windows, route-checks-needed, unless-hard, departure-in, departure, reached, reach, reach-all, home-allowed, feasible-with, route-feasible, onward as way-onward, homeward as way-homeward, set-out as way-out}
 

@@ -39,28 +39,30 @@ use Rattle.models.specs.Problem.{DistanceMatrix, Problem, Fit, Stops}
 use Rattle.models.specs.Valid.{valid}
 use Rattle.models.proofs.ValidLaws.{Floats, valid-square, valid-service, valid-distances, valid-times, valid-window, valid-penalty}
 use Rattle.distance.specs.Matrix.{get, travel-time, largest}
-use Rattle.evaluation.specs.declared.eval.RouteEval.{RouteEval}
-use Rattle.evaluation.specs.declared.eval.Eval.{Eval}
-use Rattle.evaluation.specs.declared.eval.Eval.the-variants.{Infeasible, Feasible}
+use Rattle.break_clock.specs.declared.route_eval.RouteEval.{RouteEval}
+use Rattle.break_clock.specs.declared.route_eval.Eval.{Eval}
+use Rattle.break_clock.specs.declared.route_eval.Eval.the-variants.{Infeasible, Feasible}
 use Rattle.evaluation.specs.declared.eval.Walk.{Walk}
 use Rattle.evaluation.specs.declared.eval.Walked.{Walked}
 use Rattle.evaluation.specs.declared.eval.Walked.the-variants.{Late, At as WalkAt}
-use Rattle.evaluation.specs.declared.schedule.Taken.{Taken}
-use Rattle.evaluation.specs.declared.schedule.Taken.the-variants.{No as NotTaken, At as TakenAt}
-use Rattle.evaluation.specs.declared.schedule.Label.{Label}
-use Rattle.evaluation.specs.declared.schedule.Served.{Served}
-use Rattle.evaluation.specs.declared.schedule.Served.the-variants.{Dead, Live}
-use Rattle.evaluation.specs.declared.schedule.BreakClock.{BreakClock}
-use Rattle.evaluation.specs.declared.schedule.Pushed.{Pushed}
-use Rattle.evaluation.specs.declared.schedule.Pushed.the-variants.{Stuck, On}
-use Rattle.evaluation.specs.declared.schedule.Riding.{Riding}
-use Rattle.evaluation.specs.declared.schedule.Ridden.{Ridden}
-use Rattle.evaluation.specs.declared.schedule.Ridden.the-variants.{Stuck as RideStuck, At as RideAt}
-use Rattle.evaluation.specs.Schedule.{START, in-time, too-late, at-window, serve-at, pausing, serve, served-from, sooner, earlier, lives, clocked, push, ended, finish-after, finish-before, finish, set-out as ride-out, pushed, ride, onward as ride-onward, ride-all, ride-home, homeward as ride-homeward, schedule}
-use Rattle.evaluation.specs.Eval.{priced-distance, limited, set-out, walked, drive, onward, drive-all, home, homeward, eval-with, route-eval, worth, effective-cost}
+use Rattle.labels.specs.declared.Taken.{Taken}
+use Rattle.labels.specs.declared.Taken.the-variants.{No as NotTaken, At as TakenAt}
+use Rattle.labels.specs.declared.Label.{Label}
+use Rattle.labels.specs.declared.Served.{Served}
+use Rattle.labels.specs.declared.Served.the-variants.{Dead, Live}
+use Rattle.break_clock.specs.declared.schedule.BreakClock.{BreakClock}
+use Rattle.break_clock.specs.declared.schedule.Pushed.{Pushed}
+use Rattle.break_clock.specs.declared.schedule.Pushed.the-variants.{Stuck, On}
+use Rattle.break_clock.specs.declared.schedule.Riding.{Riding}
+use Rattle.break_clock.specs.declared.schedule.Ridden.{Ridden}
+use Rattle.break_clock.specs.declared.schedule.Ridden.the-variants.{Stuck as RideStuck, At as RideAt}
+use Rattle.labels.specs.Labels.{START, in-time, too-late, at-window, serve-at, pausing, serve, served-from, sooner, earlier, lives}
+use Rattle.break_clock.specs.Schedule.{clocked, push, ended, finish-after, finish-before, finish, set-out as ride-out, pushed, ride, onward as ride-onward, ride-all, ride-home, homeward as ride-homeward, schedule}
+use Rattle.break_clock.specs.RouteEval.{priced-distance}
+use Rattle.evaluation.specs.Eval.{limited, set-out, walked, drive, onward, drive-all, home, homeward, eval-with, route-eval, worth, effective-cost}
 use Rattle.evaluation.specs.Check.{has-soft-windows}
-use Rattle.evaluation.specs.Bound.{with-window, with-penalty, later-window, dearer-penalty, latest-window, dearest-penalty, slowest, lateness-bound}
-use Rattle.evaluation.proofs.StopLaws.{stops-all}
+use Rattle.lateness_bound.specs.Bound.{with-window, with-penalty, later-window, dearer-penalty, latest-window, dearest-penalty, slowest, lateness-bound}
+use Rattle.break_clock.proofs.StopLaws.{stops-all}
 
 -- ---- amounts
 

@@ -8,7 +8,8 @@ use Rattle.laws.specs.Searches.{any, every}
 use Rattle.laws.specs.Walks.{walk}
 use Rattle.floats.specs.Binary64.{is-finite, max, min, abs, is-sign-negative, total-rank, total-less}
 use Rattle.distance.specs.Matrix.{largest}
-use Rattle.evaluation.specs.Schedule.{serve-at, serve, push, finish, ride, ride-home, schedule}
+use Rattle.labels.specs.Labels.{serve-at, serve}
+use Rattle.break_clock.specs.Schedule.{push, finish, ride, ride-home, schedule}
 use Rattle.evaluation.specs.Eval.{drive, home, route-eval, effective-cost}
 use Rattle.evaluation.specs.Check.{has-time-windows, has-soft-windows, departure, reach, home-allowed, route-feasible}
 use Rattle.plan.specs.Plan.{split, flat, total, padded, put-in, take-out, exchange-stops, exchange-tails, non-empty}

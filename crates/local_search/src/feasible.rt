@@ -12,9 +12,9 @@ ghost use Rattle.evaluation.specs.Check.{route-checks-needed};
 ghost use Rattle.local_search.specs.Feasible.{demand-at, load, fits, has-room, checked, feasible};
 use evaluation::check::route_checks_needed;
 use evaluation::check::route_feasible;
-use evaluation::trial::trial_feasible;
 use models::limits::RouteLimits;
 use models::vehicle::Vehicle;
+use trial_route::trial_feasible;
 
 // The sum of the demands of a route.
 pub fn load(route: &[u16], demand: &[i32]) -> i32

@@ -15,7 +15,7 @@ use Rattle.local_search.specs.Search.{Answers}
 use Rattle.route_minimization.specs.Minimize.{minimize-routes}
 use Rattle.route_minimization.specs.Minimizing.{Searching}
 use Rattle.ejection_pool.specs.Running.{allowance}
-use Rattle.route_elimination.specs.Eliminate.{eliminate-routes}
+use Rattle.elimination_moves.specs.Eliminate.{eliminate-routes}
 use Rattle.route_elimination.specs.Eliminating.{Eliminating}
 use Rattle.entry.specs.Table.{Work, refusal}
 use Rattle.entry.specs.Given.{numbered, minimise-inputs, eliminate-inputs}

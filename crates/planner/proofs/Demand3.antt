@@ -25,8 +25,8 @@ use Rattle.ejection_pool.specs.Pool.{Allowance}
 use Rattle.route_minimization.specs.Minimize.{minimize-routes}
 use Rattle.route_minimization.specs.Minimized.{Minimized, minimize-keeps}
 use Rattle.route_minimization.specs.Falls.{minimize-falls}
-use Rattle.route_elimination.specs.Eliminate.{eliminate-routes}
-use Rattle.route_elimination.specs.Eliminated.{Eliminated, eliminate-keeps}
+use Rattle.elimination_moves.specs.Eliminate.{eliminate-routes}
+use Rattle.elimination_moves.specs.Eliminated.{Eliminated, eliminate-keeps}
 use Rattle.entry.specs.Table.{Work, refusal}
 use Rattle.entry.specs.Given.{entry, minimise-inputs, eliminate-inputs}
 use Rattle.entry.proofs.StopsLaws.{distinct-same, stops-distinct, distinct-stops}

@@ -10,18 +10,18 @@ use Rattle.models.specs.declared.vehicle.VehicleBreak.{VehicleBreak}
 use Rattle.models.specs.TimeWindow.{time-window-new}
 use Rattle.models.specs.RouteLimits.{limits-of}
 use Rattle.models.specs.Problem.{Problem, depot}
-use Rattle.evaluation.specs.declared.eval.Eval.{Eval}
-use Rattle.evaluation.specs.Schedule.{schedule}
+use Rattle.break_clock.specs.declared.route_eval.Eval.{Eval}
+use Rattle.break_clock.specs.Schedule.{schedule}
 use Rattle.evaluation.specs.Eval.{route-eval, effective-cost}
 use Rattle.evaluation.specs.Check.{route-feasible}
-use Rattle.evaluation.specs.Bound.{lateness-bound}
+use Rattle.lateness_bound.specs.Bound.{lateness-bound}
 use Rattle.plan.specs.Plan.{Plan, Slices, split, written}
 use Rattle.local_search.specs.Route.{route-distance, gain-floor}
 use Rattle.local_search.specs.declared.rounds.Reduction.{Reduction}
 use Rattle.local_search.specs.Rounds.{Result}
 use Rattle.ejection_pool.specs.Pool.{Allowance}
 use Rattle.route_minimization.specs.Minimize.{minimize-routes}
-use Rattle.route_elimination.specs.Eliminate.{eliminate-routes}
+use Rattle.elimination_moves.specs.Eliminate.{eliminate-routes}
 use Rattle.entry.specs.Table.{Work, refusal}
 use Rattle.entry.specs.Given.{problem-inputs, route-inputs, schedule-inputs, minimise-inputs, eliminate-inputs}
 

@@ -12,11 +12,11 @@ use Rattle.models.specs.declared.vehicle.Rest.{Rest}
 use Rattle.models.specs.declared.vehicle.Rest.the-variants.{None as NoRest, Break}
 use Rattle.models.specs.declared.vehicle.Vehicle.{Vehicle}
 use Rattle.models.specs.Problem.{Problem, problem}
-use Rattle.evaluation.specs.declared.eval.Eval.{Eval}
-use Rattle.evaluation.specs.declared.eval.Eval.the-variants.{Infeasible, Feasible}
-use Rattle.evaluation.specs.declared.schedule.Taken.{Taken}
-use Rattle.evaluation.specs.declared.schedule.Taken.the-variants.{No as NotTaken, At as TakenAt}
-use Rattle.evaluation.specs.Eval.{priced-distance}
+use Rattle.break_clock.specs.declared.route_eval.Eval.{Eval}
+use Rattle.break_clock.specs.declared.route_eval.Eval.the-variants.{Infeasible, Feasible}
+use Rattle.labels.specs.declared.Taken.{Taken}
+use Rattle.labels.specs.declared.Taken.the-variants.{No as NotTaken, At as TakenAt}
+use Rattle.break_clock.specs.RouteEval.{priced-distance}
 use Rattle.plan.specs.Plan.{Slices}
 use Rattle.local_search.specs.Feasible.{load, fits}
 use Rattle.entry.specs.Table.{Work}

@@ -11,11 +11,11 @@ use Rattle.models.specs.declared.limits.RouteLimits.{RouteLimits}
 use Rattle.models.specs.RouteLimits.{limits-of}
 use Rattle.models.specs.Problem.{Problem, Fit, Stops, matrix, depot}
 use Rattle.models.proofs.ValidLaws.{valid-fit, valid-depot}
-use Rattle.evaluation.specs.declared.eval.Eval.{Eval}
-use Rattle.evaluation.specs.Schedule.{schedule}
+use Rattle.break_clock.specs.declared.route_eval.Eval.{Eval}
+use Rattle.break_clock.specs.Schedule.{schedule}
 use Rattle.evaluation.specs.Eval.{route-eval, effective-cost}
 use Rattle.evaluation.specs.Check.{route-feasible}
-use Rattle.evaluation.specs.Bound.{lateness-bound}
+use Rattle.lateness_bound.specs.Bound.{lateness-bound}
 use Rattle.local_search.specs.Route.{route-distance, gain-floor}
 use Rattle.local_search.proofs.ReadLaws.{distance-any}
 use Rattle.entry.specs.Table.{refusal}

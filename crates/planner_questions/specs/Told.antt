@@ -1,7 +1,7 @@
 -- What the enums of the code say, as answers of the questions. Assumes nothing.
 use mathlib.Core.Bool.{Bool}
 use lib.Ieee.{Float}
-use Rattle.evaluation.specs.declared.eval.Eval.{Eval}
+use Rattle.break_clock.specs.declared.route_eval.Eval.{Eval}
 use Rattle.planner.specs.Calls.{Answer, refused, answered}
 use Rattle.planner_questions.specs.declared.Checked.{Checked}
 use Rattle.planner_questions.specs.declared.Checked.the-variants.{Refused as NotChecked, Answered as CheckedAs}

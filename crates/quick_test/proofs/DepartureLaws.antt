@@ -23,7 +23,7 @@ use Rattle.models.specs.Problem.{DistanceMatrix, Fit, Stops}
 use Rattle.distance.specs.Matrix.{travel-time}
 use Rattle.evaluation.specs.declared.check.Left.{Left}
 use Rattle.evaluation.specs.declared.check.Left.the-variants.{Missed, At as LeftAt}
-use Rattle.evaluation.proofs.StopLaws.{stop-laws}
+use Rattle.break_clock.proofs.StopLaws.{stop-laws}
 use Rattle.quick_test.specs.Quick.{served-in, served-at, then-on, departures-from, departures}
 use Rattle.quick_test.specs.Parts.{leave}
 

@@ -18,7 +18,7 @@ use Rattle.models.specs.declared.customer.Customer.{Customer}
 use Rattle.models.specs.Customer.{Customers, customer-at}
 use Rattle.models.specs.Problem.{DistanceMatrix, Fit, Stops}
 use Rattle.distance.specs.Matrix.{travel-time}
-use Rattle.evaluation.proofs.StopLaws.{stop-laws}
+use Rattle.break_clock.proofs.StopLaws.{stop-laws}
 use Rattle.quick_test.specs.Quick.{earliest-start, latest-start, latest-arrival, latest-arrivals}
 use Rattle.quick_test.specs.Parts.{latest-in}
 

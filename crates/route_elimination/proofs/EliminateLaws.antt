@@ -23,10 +23,10 @@ use Rattle.local_search.proofs.RoundLaws.{rounds-of}
 use Rattle.local_search.proofs.NextLaws.{pick-there, next-kept, next-refused, next-accepted, next-taken}
 use Rattle.local_search.proofs.SearchLaws.{Rounding, Trying, trying-whole, trying-few, trying-routes-few, trying-planned, refused, taken, after-kept, after-accepted}
 use Rattle.reinsertion.specs.Candidates.{soft}
-use Rattle.route_elimination.specs.Eliminate.{without-route, attempt, eliminate-routes}
-use Rattle.route_elimination.specs.Attempts.{Attempted, fewer, Left}
+use Rattle.elimination_moves.specs.Eliminate.{without-route, attempt, eliminate-routes}
+use Rattle.elimination_attempt.specs.Attempts.{Attempted, fewer, Left}
 use Rattle.route_elimination.specs.Eliminating.{Eliminating}
-use Rattle.route_elimination.specs.Eliminated.{attempt-reduces}
+use Rattle.elimination_moves.specs.Eliminated.{attempt-reduces}
 
 -- ---- the next attempt
 

@@ -1,9 +1,2 @@
--- Laws of this crate's definitions, as the code meets them.
--- the stops that are moved, the largest demand first
-pub mod LargestLaws
--- the stops moved one after the other
-pub mod MoveLaws
--- an attempt
-pub mod AttemptLaws
--- the search
+-- The search, as the code meets it.
 pub mod EliminateLaws

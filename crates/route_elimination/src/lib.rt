@@ -1,10 +1,10 @@
 // Route elimination: a route is emptied by inserting its stops into the others (local_search/route_elimination.rs).
-// The definitions and their laws are in specs/.
+// The definitions and their laws are in `elimination_moves`.
 ghost use lib.ListN.{length};
 ghost use Rattle.models.specs.Problem.{problem};
 ghost use Rattle.plan.specs.Plan.{split};
 ghost use Rattle.local_search.specs.Search.{Answers, uncounted, left-with};
-ghost use Rattle.route_elimination.specs.Eliminate.{eliminate-routes};
+ghost use Rattle.elimination_moves.specs.Eliminate.{eliminate-routes};
 ghost use Rattle.route_elimination.specs.Eliminating.{Eliminating};
 use crate::round::try_next;
 use evaluation::check::has_soft_windows;
@@ -15,9 +15,6 @@ use models::vehicle::Vehicle;
 use plan::drop_empty;
 use plan::order::Pick;
 
-pub mod attempt;
-pub mod largest;
-pub mod moves;
 pub mod round;
 
 // `eliminate_routes`: rounds of attempts, begun again from the shortest route as soon as one is accepted. How many routes are left.

@@ -4,5 +4,3 @@ pub mod FillLaws
 pub mod PlaceLaws
 -- sections
 pub mod SectionLaws
--- routes in their slices
-pub mod RouteLaws

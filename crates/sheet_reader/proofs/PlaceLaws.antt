@@ -16,7 +16,7 @@ use Rattle.sheet_format.specs.declared.places.PlaceAt.the-variants.{Got as Plac
 use Rattle.sheet_format.specs.Form.{ready-cell, due-cell, penalty-cell, flags-cell, place}
 use Rattle.sheet_format.specs.Told.{told-place}
 use Rattle.sheet_reader.specs.Cells.{Columns, columns-of, columns, first-cells, join, add-place, Room, Sizes}
-use Rattle.sheet_reader.proofs.FillLaws.{map-none, got-of, refused-of, fill-end, fill-fault, fill-turn}
+use Rattle.sheet_reader.proofs.FillLaws.{got-of, refused-of, fill-end, fill-fault, fill-turn}
 
 -- a cell that is filled
 added : {A : Type 0} (l : List A) (i : ℕ) (x : A) → i + 1 ≤ length l → take (i + 1) (set l i x) ≡ take i l ++ (x ∷ [])

@@ -1,32 +1,18 @@
 -- Sections: what a heading says of its count, and readings that go on behind it: the ruleset `sections`. Assumes nothing.
-use Prim.Native.Nat.{ℕ, zero, _*_, _≤_}
+use Prim.Native.Nat.{ℕ, _≤_}
 use mathlib.Core.Path.{_≡_, refl, ap, sym, _∙_, subst}
-use mathlib.Core.Bool.{Bool, true, false, _&&_, _||_}
+use mathlib.Core.Bool.{Bool, true, false, _&&_}
 use mathlib.Core.List.{List}
-use native.Mathlib.Omega.{arith}
-use lib.Dec.{leb, eqb}
-use lib.ListN.{length, take}
-use borrow.Author.Tests.{leb-true, eq-eqb, ne-eqb}
-use lib.Ieee.{Float}
-use Rattle.sheet_text.specs.Text.{Reading, refused, got, next, check, map-reading, heading, word, byte, number, space, lf, repeat}
+use lib.Dec.{leb}
+use borrow.Author.Tests.{leb-true}
+use Rattle.sheet_text.specs.Text.{Reading, refused, got, next, check, map-reading, heading, word, byte, number, space, lf}
 use Rattle.sheet_text.specs.Told.{told-count}
 use Rattle.sheet_text.specs.declared.numbers.Next.{Next}
 use Rattle.sheet_text.specs.declared.numbers.Next.the-variants.{At as NextAt, Bad as NextBad}
 use Rattle.sheet_text.specs.declared.words.Count.{Count}
-use Rattle.sheet_text.specs.declared.words.Count.the-variants.{Got as CountGot, Refused as CountRefused}
-use Rattle.sheet_text.proofs.ReadLaws.{told, next-got, next-refused}
-use Rattle.plan.specs.Plan.{flat}
-use Rattle.models.specs.Problem.{matrix}
-use Rattle.sheet_format.specs.Form.{Run, square, distances, times, roads}
-use Rattle.sheet_reader.specs.declared.roads.Section.{Section}
-use Rattle.sheet_reader.specs.declared.roads.Section.the-variants.{At as SectionAt, Refused as SectionRefused}
-use Rattle.sheet_reader.proofs.FillLaws.{got-of, refused-of}
-use Rattle.sheet_reader.specs.Cells.{filled, filled-section, filled-square, filled-roads, PlanWithin, told-run}
-use Rattle.sheet_format.specs.Form.{row-by-row}
-use Rattle.sheet_reader.specs.declared.routes.PlanAt.{PlanAt}
-use Rattle.sheet_reader.specs.declared.routes.PlanAt.the-variants.{Got as PlanGot, Refused as PlanRefused}
-use Rattle.sheet_reader.specs.declared.run.RunAt.{RunAt}
-use Rattle.sheet_reader.specs.declared.run.RunAt.the-variants.{Got as RunGot, Refused as RunRefused}
+use Rattle.sheet_text.specs.declared.words.Count.the-variants.{Got as CountGot}
+use Rattle.sheet_text.proofs.ReadLaws.{told}
+use Rattle.sheet_reader.specs.Cells.{filled}
 
 -- ---- counts
 
@@ -84,60 +70,3 @@ module _ {S : Type 0} (cells : S) (r : Next) (p : Reading S) where
   filled-bad = told (filled cells)
 
 pub ruleset sections = (map-refused, map-count, map-check, filled-at, filled-bad)
-
--- ---- times
-
-module _ (n m : ℕ) (s : List ℕ) (i : ℕ) where
-  abbrev rest-of-times : Reading (List Float)
-  rest-of-times = map-reading row-by-row (next (check (eqb m 0 || eqb m n) 11 s i) (λ u j. square m s j))
-
-  pub times-none : (cells : List Float) → m ≡ 0 → got (take (0 * 0) cells) i ≡ rest-of-times
-  unfolding repeat flat
-  times-none cells e = rw e
-
-  pub times-other : (m ≡ 0 → ⊥) → (m ≡ n → ⊥) → refused 11 ≡ rest-of-times
-  times-other z e = rw (ne-eqb m 0 z, ne-eqb m n e)
-
-  pub times-all : (y : Reading (List Float)) → (m ≡ 0 → ⊥) → m ≡ n → y ≡ map-reading row-by-row (square n s i) → y ≡ rest-of-times
-  times-all y z e g = rw (ne-eqb m 0 z, eq-eqb m n e) (g ∙ ap (λ (k : ℕ). map-reading row-by-row (square k s i)) (sym e))
-
-pub ruleset times-laws = (times-none, times-other, times-all)
-
--- ---- the run
-
-pub on-run : {B : Type 0} (r : RunAt) (m k i : ℕ) (p : Reading Run) (f : Run → ℕ → Reading B) (y : Reading B) → told-run r ≡ p → r ≡ RunGot m k i
-    → y ≡ f (record { limit = m; clock = k }) i → y ≡ next p f
-on-run r m k i p f y t e g = next-got p f (record { limit = m; clock = k }) i y (told told-run e t) g
-
-pub run-refused : (r : RunAt) (n : ℕ) (p : Reading Run) → r ≡ RunRefused n → told-run r ≡ p → refused n ≡ p
-run-refused r n p = told told-run
-
-pub ruleset run-laws = (on-run, run-refused)
-
-pub plan-within : (n m : ℕ) (r : PlanAt) → PlanWithin n r → n ≤ m → PlanWithin m r
-plan-within n m (PlanGot k used i) w h = (omega (arith, w .0, h), w .1)
-plan-within n m (PlanRefused k) w h = tt
-
--- ---- distances, and then times
-
-module _ (n : ℕ) (s : List ℕ) (at : ℕ) (cells : List Float) (d : Section) (t : filled-section (take (n * n) cells) d ≡ map-reading row-by-row (distances n s at)) where
-  pub no-distances : (k : ℕ) → d ≡ SectionRefused k → refused k ≡ roads n s at
-  unfolding roads
-  no-distances k e =
-      let g = refused-of row-by-row (distances n s at) (told (filled-section (take (n * n) cells)) e t) in
-      rw (← g)
-
-  pub both-roads : (i : ℕ) (others : List Float) (r : Count) → d ≡ SectionAt i → filled-square others r ≡ map-reading row-by-row (times n s i) → filled-roads n cells others r ≡ roads n s at
-  unfolding roads
-  both-roads i others r e g =
-      let x = got-of row-by-row (distances n s at) (told (filled-section (take (n * n) cells)) e t) in
-      rw (← (x .1), ← (x .2)) (go r g)
-    where
-      go : (r : Count) → filled-square others r ≡ map-reading row-by-row (times n s i)
-          → filled-roads n cells others r ≡ next (times n s i) (λ ts j. got (matrix n (take (n * n) cells) (row-by-row ts)) j)
-      go (CountGot m j) h =
-          let y = got-of row-by-row (times n s i) h in
-          rw (← (y .1), ← (y .2))
-      go (CountRefused k) h =
-          let y = refused-of row-by-row (times n s i) h in
-          rw (← y)

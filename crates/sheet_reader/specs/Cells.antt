@@ -1,25 +1,17 @@
 -- How lent slices hold what is read: in their first cells, one after the other. Assumes nothing.
-use Prim.Native.Nat.{ℕ, _+_, _*_, _<_, _≤_}
+use Prim.Native.Nat.{ℕ, _≤_}
 use mathlib.Core.Path.{_≡_}
 use mathlib.Core.List.{List, [], _∷_, _++_, map}
 use lib.ListN.{length, take}
 use lib.IntN.{ℤ}
 use lib.Ieee.{Float}
-use Rattle.models.specs.Problem.{DistanceMatrix, matrix}
-use Rattle.plan.specs.Plan.{Plan, Slices}
 use Rattle.sheet_text.specs.Text.{Reading, refused, got}
 use Rattle.sheet_text.specs.declared.numbers.Next.{Next}
 use Rattle.sheet_text.specs.declared.numbers.Next.the-variants.{At as NextAt, Bad as NextBad}
 use Rattle.sheet_text.specs.declared.words.Count.{Count}
 use Rattle.sheet_text.specs.declared.words.Count.the-variants.{Got as CountGot, Refused as CountRefused}
 use Rattle.sheet_format.specs.declared.places.Place.{Place}
-use Rattle.sheet_reader.specs.declared.roads.Section.{Section}
-use Rattle.sheet_reader.specs.declared.roads.Section.the-variants.{At as SectionAt, Refused as SectionRefused}
-use Rattle.sheet_reader.specs.declared.routes.PlanAt.{PlanAt}
-use Rattle.sheet_reader.specs.declared.routes.PlanAt.the-variants.{Got as PlanGot, Refused as PlanRefused}
-use Rattle.sheet_reader.specs.declared.run.RunAt.{RunAt}
-use Rattle.sheet_reader.specs.declared.run.RunAt.the-variants.{Got as RunGot, Refused as RunRefused}
-use Rattle.sheet_format.specs.Form.{Run, ready-cell, due-cell, penalty-cell, flags-cell, stop-cell}
+use Rattle.sheet_format.specs.Form.{ready-cell, due-cell, penalty-cell, flags-cell}
 
 -- ---- numbers
 
@@ -97,54 +89,12 @@ abbrev pub filled : {S : Type 0} → S → Next → Reading S
 filled cells (NextAt i) = got cells i
 filled cells NextBad = refused 11
 
-abbrev pub filled-section : {S : Type 0} → S → Section → Reading S
-filled-section cells (SectionAt i) = got cells i
-filled-section cells (SectionRefused k) = refused k
-
--- so many cells of a slice
-abbrev pub filled-count : {A : Type 0} → List A → Count → Reading (List A)
-filled-count cells (CountGot n i) = got (take n cells) i
-filled-count cells (CountRefused k) = refused k
-
 -- where a count was read it is at most so many
 abbrev pub AtMost : ℕ → Count → Type 0
 AtMost most (CountGot n i) = n ≤ most
 AtMost most (CountRefused k) = Unit
 
--- so many rows of as many cells
-abbrev pub filled-square : List Float → Count → Reading (List Float)
-filled-square cells (CountGot n i) = got (take (n * n) cells) i
-filled-square cells (CountRefused k) = refused k
-
--- n rows of distances, and so many of times
-abbrev pub filled-roads : ℕ → List Float → List Float → Count → Reading DistanceMatrix
-filled-roads n distances times (CountGot m i) = got (matrix n (take (n * n) distances) (take (m * m) times)) i
-filled-roads n distances times (CountRefused k) = refused k
-
 -- so many places
 abbrev pub filled-places : Columns → Count → Reading Columns
 filled-places c (CountGot n i) = got (first-cells n c) i
 filled-places c (CountRefused k) = refused k
-
--- a route behind the stops that are used: its length, and the stops up to its end
-abbrev pub route-behind : ℕ → List ℕ → List ℕ → ℕ × List ℕ
-route-behind used stops route = (length route, front stop-cell stops used route)
-
-abbrev pub filled-route : ℕ → List ℕ → Count → Reading (ℕ × List ℕ)
-filled-route used stops (CountGot k i) = got (k, take (used + k) stops) i
-filled-route used stops (CountRefused n) = refused n
-
--- so many routes, of so many stops in all
-abbrev pub filled-plan : List ℕ → List ℕ → PlanAt → Reading Slices
-filled-plan lengths stops (PlanGot m used i) = got (record { lengths = take m lengths; stops = take used stops }) i
-filled-plan lengths stops (PlanRefused k) = refused k
-
--- where a plan was read it has at most so many routes, and 64 stops
-abbrev pub PlanWithin : ℕ → PlanAt → Type 0
-PlanWithin most (PlanGot m used i) = (m ≤ most) × (used ≤ 64)
-PlanWithin most (PlanRefused k) = Unit
-
--- M, K
-abbrev pub told-run : RunAt → Reading Run
-told-run (RunGot m k i) = got (record { limit = m; clock = k }) i
-told-run (RunRefused n) = refused n

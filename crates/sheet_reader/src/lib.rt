@@ -1,5 +1,2 @@
-// Reads a sheet, section by section, into lent slices.
+// Reads the places of a sheet into lent slices.
 pub mod places;
-pub mod roads;
-pub mod routes;
-pub mod run;

@@ -12,7 +12,7 @@ use sheet_format::vehicle::VehicleAt;
 use sheet_format::vehicle::rest;
 use sheet_format::vehicle::vehicle;
 use sheet_reader::places::places;
-use sheet_reader::roads::roads;
+use sheet_roads::roads;
 use sheet_text::words::Count;
 
 // How many places there are, how many rows of times, and the vehicle.

@@ -8,11 +8,11 @@ ghost use Rattle.sheet_whole.specs.Whole.{told-sheet, SheetWithin};
 use crate::problem::Head;
 use crate::problem::ProblemAt;
 use crate::problem::problem;
-use sheet_reader::routes::PlanAt;
-use sheet_reader::routes::draws;
-use sheet_reader::routes::routes;
-use sheet_reader::run::RunAt;
-use sheet_reader::run::last_run;
+use sheet_routes::routes::PlanAt;
+use sheet_routes::routes::draws;
+use sheet_routes::routes::routes;
+use sheet_routes::run::RunAt;
+use sheet_routes::run::last_run;
 use sheet_text::words::Count;
 
 // The head of the problem, how many draws, routes and stops there are, M, K, and the position after the sheet; or the number of a refusal.

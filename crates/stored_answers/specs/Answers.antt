@@ -6,11 +6,11 @@ use lib.Dec.{eqb}
 use lib.Ieee.{Float, binary64, toBits}
 use Rattle.models.specs.declared.customer.Window.{Window}
 use Rattle.models.specs.declared.customer.Window.the-variants.{None as NoWindow, Is}
-use Rattle.evaluation.specs.declared.eval.Eval.{Eval}
-use Rattle.evaluation.specs.declared.eval.Eval.the-variants.{Infeasible, Feasible}
-use Rattle.evaluation.specs.declared.eval.RouteEval.{RouteEval}
-use Rattle.evaluation.specs.declared.schedule.Taken.{Taken}
-use Rattle.evaluation.specs.declared.schedule.Taken.the-variants.{No, At}
+use Rattle.break_clock.specs.declared.route_eval.Eval.{Eval}
+use Rattle.break_clock.specs.declared.route_eval.Eval.the-variants.{Infeasible, Feasible}
+use Rattle.break_clock.specs.declared.route_eval.RouteEval.{RouteEval}
+use Rattle.labels.specs.declared.Taken.{Taken}
+use Rattle.labels.specs.declared.Taken.the-variants.{No, At}
 use Rattle.local_search.specs.declared.rounds.Reduction.{Reduction}
 use Rattle.planner.specs.Calls.{Answer, refused, answered}
 use Rattle.stored_answers.specs.declared.Stored.{Stored}

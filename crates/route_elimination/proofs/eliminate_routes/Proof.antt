@@ -8,8 +8,8 @@ use Rattle.plan.specs.Plan.{drop-zero}
 use Rattle.plan.specs.Order.{following}
 use Rattle.local_search.specs.Search.{uncounted}
 use Rattle.local_search.proofs.SearchLaws.{Rounding, Trying, rounding-start, round-same, trying-start, front-length, front-in, back-long, at-end, after-kept-less, after-accepted-less}
-use Rattle.route_elimination.specs.Eliminate.{attempt}
-use Rattle.route_elimination.specs.Eliminated.{attempt-reduces}
+use Rattle.elimination_moves.specs.Eliminate.{attempt}
+use Rattle.elimination_moves.specs.Eliminated.{attempt-reduces}
 use Rattle.route_elimination.proofs.EliminateLaws.{trying-eliminating, after-refused, after-gone, rounds-answer}
 use Rattle.route_elimination.proofs.eliminate_routes.Statement.{statement}
 use Rattle.route_elimination.proofs.eliminate_routes.Tie as tie

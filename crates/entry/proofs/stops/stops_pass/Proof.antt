@@ -2,7 +2,7 @@
 use Prim.Native.Nat.{_-_}
 use mathlib.Core.List.{[]}
 use lib.ListN.{length, getD, take}
-use Rattle.evaluation.proofs.StopLaws.{part-laws}
+use Rattle.break_clock.proofs.StopLaws.{part-laws}
 use Rattle.laws.specs.Passed.{Passed, every-laws}
 use Rattle.models.specs.Problem.{of-distances}
 use Rattle.entry.specs.Table.{stop-passes, stops-pass}

@@ -4,7 +4,7 @@ use borrow.Author.Needs.{needs}
 use lib.ListN.{length}
 use native.Mathlib.Omega.{arith}
 use Rattle.evaluation.proofs.EvalLaws.{Driving, driving-laws}
-use Rattle.evaluation.proofs.StopLaws.{stop-laws}
+use Rattle.break_clock.proofs.StopLaws.{stop-laws}
 use Rattle.models.specs.Customer.{customers}
 use Rattle.models.specs.Problem.{matrix}
 use Rattle.evaluation.proofs.eval.drive_all.Statement.{statement}

@@ -1,0 +1,2 @@
+-- Laws of an attempt, as the code meets it.
+pub mod AttemptLaws

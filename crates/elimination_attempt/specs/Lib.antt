@@ -1,0 +1,2 @@
+-- What an attempt asks and leaves.
+pub mod Attempts

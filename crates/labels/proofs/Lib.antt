@@ -1,0 +1,3 @@
+-- Laws of this crate's definitions.
+-- specs/Labels, as the code meets it
+pub mod LabelLaws

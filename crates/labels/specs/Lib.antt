@@ -1,0 +1,3 @@
+-- What the contracts of this crate cite.
+-- schedule.rs: labels, one stop
+pub mod Labels

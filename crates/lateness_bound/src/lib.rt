@@ -1,0 +1,2 @@
+// The most that the lateness of any plan can cost (evaluation/mod.rs, `lateness_bound`).
+pub mod bound;

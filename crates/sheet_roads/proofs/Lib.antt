@@ -1,0 +1,2 @@
+-- rows, distances and times
+pub mod RoadLaws

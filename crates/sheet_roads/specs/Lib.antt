@@ -1,0 +1,2 @@
+-- how lent slices hold distances and times
+pub mod Roads

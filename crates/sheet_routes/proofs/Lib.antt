@@ -1,0 +1,4 @@
+-- routes in their slices
+pub mod RouteLaws
+-- the run
+pub mod RunLaws

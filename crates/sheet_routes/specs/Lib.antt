@@ -1,0 +1,2 @@
+-- how lent slices hold draws, routes and the run
+pub mod Routes
