@@ -5,3 +5,5 @@ pub mod VehicleLaws
 pub mod AnswerLaws
 -- a list of calls
 pub mod ListLaws
+-- a sheet
+pub mod SheetLaws

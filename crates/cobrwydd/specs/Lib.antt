@@ -5,3 +5,5 @@ pub mod VehicleOf
 pub mod Said
 -- a list of calls
 pub mod Lists
+-- a sheet
+pub mod Sheets

@@ -4,4 +4,5 @@ mod answers;
 pub mod calls;
 pub mod lists;
 pub mod questions;
+pub mod sheet;
 mod vehicle;
