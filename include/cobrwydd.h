@@ -164,6 +164,13 @@ uint8_t cobrwydd_gain_floor(double *out, size_t out_len, COBRWYDD_PROBLEM);
  *   found              1 word. found[0]: 1 both are finite and ready <= due, 0 there is no window */
 uint8_t cobrwydd_time_window_new(double *out, size_t out_len, uint64_t *found, size_t found_len, double ready, double due);
 
+/* ---- A sheet: read, minimised, eliminated, and listed. Returns 0 or 100; a sheet that is refused prints the line of its refusal.
+ *
+ *   out                6000 bytes: what the text prints stands from the first byte on, and the rest stays as it is
+ *   written            1 word. written[0]: how many bytes are printed, at most 6000
+ *   text               the bytes of the sheet, any number of them */
+uint8_t cobrwydd_plan_sheet(uint8_t *out, size_t out_len, uint64_t *written, size_t written_len, const uint8_t *text, size_t text_len);
+
 #ifdef __cplusplus
 }
 #endif

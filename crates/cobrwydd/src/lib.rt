@@ -3,3 +3,4 @@
 pub mod calls;
 pub mod lists;
 pub mod questions;
+pub mod sheet;
