@@ -1,4 +1,4 @@
-//! The sheets of compare/sample/sheets.txt, which a proved program can plan one after the other, and what the original prints for them.
+//! The sheets of crates/sheet_cases, which that program plans one after the other, and what the original prints for them.
 
 use super::compared::{features, refusal};
 use super::edits::{SAMPLE, SMALL};
@@ -9,7 +9,8 @@ use crate::generate::case_seed;
 use crate::original::Original;
 use crate::problem::{Call, Cells, Plan, Problem, Vehicle};
 
-/// The sample, the small sheet, one of 64 places, and random ones: the first under 500 bytes of ASCII text with something that none before it has.
+/// The sample, the small sheet, one of 64 places, random ones, the first under 500 bytes of ASCII text with something that none before it has, and one
+/// byte too many.
 fn sheets() -> Vec<Vec<u8>> {
     let mut sheets = vec![SAMPLE.to_vec(), SMALL.to_vec(), full()];
     let mut seen = vec![];
@@ -33,6 +34,7 @@ fn sheets() -> Vec<Vec<u8>> {
             sheets.push(text);
         }
     }
+    sheets.push(vec![b'\n'; 60_001]);
     sheets
 }
 
