@@ -1,4 +1,2 @@
 -- routes in their slices
 pub mod RouteLaws
--- the run
-pub mod RunLaws

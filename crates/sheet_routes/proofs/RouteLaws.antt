@@ -1,9 +1,8 @@
 -- Route lines that are read into lengths and stops. Assumes nothing.
 use Prim.Native.Nat.{ℕ, zero, suc, _+_, _-_, _≤_, _<_}
 use mathlib.Core.Path.{_≡_, refl, ap, sym, _∙_, subst}
-use mathlib.Core.List.{List, [], _∷_, _++_, map, append-assoc, append-nil, map-append}
+use mathlib.Core.List.{List, _∷_, _++_, map, append-assoc, append-nil, map-append}
 use native.Mathlib.Omega.{arith}
-use native.Mathlib.Numerals.{add-one}
 use borrow.Author.Tests.{le-leb, lt-leb, leb-true}
 use mathlib.Core.Bool.{Bool, true, false}
 use lib.Dec.{leb}
@@ -18,7 +17,9 @@ use Rattle.sheet_text.specs.declared.words.Count.the-variants.{Got as CountGot,
 use Rattle.sheet_text.proofs.ReadLaws.{told}
 use Rattle.sheet_format.specs.Form.{stop-cell, route-line, route-lines, slices-of}
 use Rattle.sheet_reader.specs.Cells.{front}
-use Rattle.sheet_routes.specs.Routes.{route-behind, filled-route}
+use Rattle.sheet_routes.specs.declared.routes.PlanAt.{PlanAt}
+use Rattle.sheet_routes.specs.declared.routes.PlanAt.the-variants.{Got as PlanGot, Refused as PlanRefused}
+use Rattle.sheet_routes.specs.Routes.{PlanWithin, route-behind, filled-route}
 use Rattle.sheet_reader.proofs.FillLaws.{got-of, refused-of, cell-filled, next-map, map-map, map-same}
 use Rattle.sheet_reader.proofs.SectionLaws.{next-rule}
 
@@ -185,3 +186,9 @@ module _
           ∙ map-map (plan-behind r ls used ss) (λ vs. x .0 ∷ vs) (route-lines (left - 1) (64 - (used + k)) s j)
           ∙ map-same (λ vs. plan-behind r ls used ss (x .0 ∷ vs)) (plan-behind (r + 1) (set ls r k) (used + k) d) (route-lines (left - 1) (64 - (used + k)) s j)
           (λ vs. routes-more ls ss d r used k (x .0) vs o l m)
+
+-- ---- the bounds of a plan that was read
+
+pub plan-within : (n m : ℕ) (r : PlanAt) → PlanWithin n r → n ≤ m → PlanWithin m r
+plan-within n m (PlanGot k used i) w h = (omega (arith, w .0, h), w .1)
+plan-within n m (PlanRefused k) w h = tt

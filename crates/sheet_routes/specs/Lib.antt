@@ -1,2 +1,2 @@
--- how lent slices hold draws, routes and the run
+-- how lent slices hold draws and routes
 pub mod Routes

@@ -1,4 +1,4 @@
--- How lent slices hold the draws, the routes and the run. Assumes nothing.
+-- How lent slices hold the draws and the routes. Assumes nothing.
 use Prim.Native.Nat.{ℕ, _+_, _≤_}
 use mathlib.Core.List.{List}
 use lib.ListN.{length, take}
@@ -8,9 +8,7 @@ use Rattle.sheet_text.specs.declared.words.Count.{Count}
 use Rattle.sheet_text.specs.declared.words.Count.the-variants.{Got as CountGot, Refused as CountRefused}
 use Rattle.sheet_routes.specs.declared.routes.PlanAt.{PlanAt}
 use Rattle.sheet_routes.specs.declared.routes.PlanAt.the-variants.{Got as PlanGot, Refused as PlanRefused}
-use Rattle.sheet_routes.specs.declared.run.RunAt.{RunAt}
-use Rattle.sheet_routes.specs.declared.run.RunAt.the-variants.{Got as RunGot, Refused as RunRefused}
-use Rattle.sheet_format.specs.Form.{Run, stop-cell}
+use Rattle.sheet_format.specs.Form.{stop-cell}
 use Rattle.sheet_reader.specs.Cells.{front}
 
 -- so many cells of a slice
@@ -35,8 +33,3 @@ filled-plan lengths stops (PlanRefused k) = refused k
 abbrev pub PlanWithin : ℕ → PlanAt → Type 0
 PlanWithin most (PlanGot m used i) = (m ≤ most) × (used ≤ 64)
 PlanWithin most (PlanRefused k) = Unit
-
--- M, K
-abbrev pub told-run : RunAt → Reading Run
-told-run (RunGot m k i) = got (record { limit = m; clock = k }) i
-told-run (RunRefused n) = refused n

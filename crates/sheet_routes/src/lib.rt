@@ -1,3 +1,2 @@
-// Reads the draws, the routes and the run of a sheet, section by section, into lent slices.
+// Reads the draws and the routes of a sheet into lent slices.
 pub mod routes;
-pub mod run;

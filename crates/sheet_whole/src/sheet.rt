@@ -11,8 +11,8 @@ use crate::problem::problem;
 use sheet_routes::routes::PlanAt;
 use sheet_routes::routes::draws;
 use sheet_routes::routes::routes;
-use sheet_routes::run::RunAt;
-use sheet_routes::run::last_run;
+use sheet_run::RunAt;
+use sheet_run::last_run;
 use sheet_text::words::Count;
 
 // The head of the problem, how many draws, routes and stops there are, M, K, and the position after the sheet; or the number of a refusal.

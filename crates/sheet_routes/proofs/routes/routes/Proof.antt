@@ -2,7 +2,7 @@
 use native.Mathlib.Omega.{arith}
 use borrow.Author.Needs.{needs}
 use Rattle.sheet_reader.proofs.SectionLaws.{sections, count-within}
-use Rattle.sheet_routes.proofs.RunLaws.{plan-within}
+use Rattle.sheet_routes.proofs.RouteLaws.{plan-within}
 use Rattle.sheet_format.specs.Form.{routes}
 use Rattle.sheet_text.proofs.ReadLaws.{readings}
 use Rattle.sheet_routes.proofs.routes.routes.Statement.{statement}

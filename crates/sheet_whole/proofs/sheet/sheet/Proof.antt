@@ -4,7 +4,8 @@ use borrow.Author.Needs.{needs}
 use Rattle.sheet_whole.proofs.SheetLaws.{no-problem, no-draws, no-routes, no-run, sheet-got}
 use Rattle.sheet_whole.specs.Whole.{told-problem, ProblemWithin}
 use Rattle.sheet_reader.specs.Cells.{AtMost}
-use Rattle.sheet_routes.specs.Routes.{PlanWithin, filled-count, filled-plan, told-run}
+use Rattle.sheet_routes.specs.Routes.{PlanWithin, filled-count, filled-plan}
+use Rattle.sheet_run.specs.Run.{told-run}
 use Rattle.sheet_format.specs.Faults.{too-long}
 use Rattle.sheet_text.proofs.ReadLaws.{told}
 use Rattle.sheet_whole.proofs.sheet.sheet.Statement.{statement}

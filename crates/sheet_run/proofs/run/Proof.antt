@@ -2,8 +2,8 @@
 use borrow.Author.Needs.{needs}
 use Rattle.sheet_format.specs.Form.{run}
 use Rattle.sheet_text.proofs.ReadLaws.{readings}
-use Rattle.sheet_routes.proofs.run.run.Statement.{statement}
-use Rattle.sheet_routes.proofs.run.run.Tie as tie
+use Rattle.sheet_run.proofs.run.Statement.{statement}
+use Rattle.sheet_run.proofs.run.Tie as tie
 
 slice-aggregate-heading : tie.Need-slice-aggregate-heading
 slice-aggregate-heading c = search needs

@@ -2,7 +2,7 @@
 ghost use mathlib.Core.Path.{_≡_};
 ghost use Rattle.sheet_format.specs.Form.{run-line, last-run};
 ghost use Rattle.sheet_format.specs.Form.{run as Form·run};
-ghost use Rattle.sheet_routes.specs.Routes.{told-run};
+ghost use Rattle.sheet_run.specs.Run.{told-run};
 use sheet_text::numbers::NumberAt;
 use sheet_text::numbers::number_before;
 use sheet_text::words::Count;

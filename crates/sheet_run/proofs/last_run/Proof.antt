@@ -2,10 +2,10 @@
 use borrow.Author.Tests.{eq-eqb, ne-eqb}
 use borrow.Author.Needs.{needs}
 use Rattle.sheet_format.specs.Form.{last-run}
-use Rattle.sheet_routes.proofs.RunLaws.{run-laws}
+use Rattle.sheet_run.proofs.RunLaws.{run-laws}
 use Rattle.sheet_text.proofs.ReadLaws.{readings}
-use Rattle.sheet_routes.proofs.run.last_run.Statement.{statement}
-use Rattle.sheet_routes.proofs.run.last_run.Tie as tie
+use Rattle.sheet_run.proofs.last_run.Statement.{statement}
+use Rattle.sheet_run.proofs.last_run.Tie as tie
 
 run-requires : tie.Need-run-requires
 run-requires c κs = search needs

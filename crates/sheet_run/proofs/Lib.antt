@@ -1,0 +1,2 @@
+-- the run
+pub mod RunLaws
