@@ -3,7 +3,7 @@
 use Prim.Native.Nat.{ℕ, zero, suc, _+_, _-_, _*_, _^_, _≤_, _<_}
 use mathlib.Core.Path.{_≡_, refl, ap, sym, _∙_, subst}
 use mathlib.Core.Bool.{Bool, true, false, cond, _&&_}
-use mathlib.Core.List.{List, [], _∷_, _++_, map}
+use mathlib.Core.List.{List, [], _∷_}
 use native.Mathlib.Omega.{arith}
 use native.Mathlib.Nat.{suc-mul, zero-mul, mul-one, mul-assoc, mul-le-mul-left, mul-le-mul-right, one-le-pow, pow-succ', lt-of-lt-of-le}
 use borrow.Author.Tests.{leb-true}
@@ -14,7 +14,7 @@ use Rattle.laws.specs.Searches.{and-second}
 use Rattle.models.specs.Problem.{Problem, DistanceMatrix}
 use Rattle.plan.specs.Plan.{Plan, flat}
 use Rattle.sheet_text.specs.Text.{Reading, refused, got, next, Parser, bytes, space, lf, check, byte, word, before, is-digit, is-end, look, byte-at, digits, number, ending, repeat, line, heading}
-use Rattle.sheet_format.specs.Form.{Sheet, vehicle, places, square, distances, times, roads, break, draws, route-line, route-lines, routes, stop-cell, slices-of, last-run, whole-problem, problem-of, sections, sheet}
+use Rattle.sheet_format.specs.Form.{Sheet, vehicle, places, distances, times, roads, break, draws, route-line, route-lines, routes, stop-cell, slices-of, last-run, whole-problem, problem-of, sections, sheet}
 use Rattle.sheet_laws.specs.Short.{Short}
 
 -- ---- one rule for each form

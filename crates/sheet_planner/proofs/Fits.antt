@@ -1,6 +1,6 @@
 -- Every text prints at most 6,000 bytes: a sheet that was read has at most 64 routes and 64 stops, and no call leaves more. Assumes nothing.
 use Prim.Native.Nat.{ℕ, _≤_}
-use mathlib.Core.Path.{_≡_, refl, ap, _∙_}
+use mathlib.Core.Path.{_≡_, refl, ap}
 use mathlib.Core.List.{List, [], _∷_}
 use mathlib.Core.Option.{Option, none, some}
 use native.Mathlib.Nat.{le-refl}
@@ -18,9 +18,9 @@ use Rattle.local_search.specs.Rounds.{Result}
 use Rattle.ejection_pool.specs.Pool.{Allowance}
 use Rattle.ejection_pool.specs.Running.{allowance}
 use Rattle.route_minimization.specs.Minimize.{minimize-routes}
-use Rattle.route_minimization.specs.Minimized.{Minimized, minimize-keeps}
+use Rattle.route_minimization.specs.Minimized.{minimize-keeps}
 use Rattle.route_elimination.specs.Eliminate.{eliminate-routes}
-use Rattle.route_elimination.specs.Eliminated.{Eliminated, eliminate-keeps}
+use Rattle.route_elimination.specs.Eliminated.{eliminate-keeps}
 use Rattle.entry.specs.Table.{Work, refusal}
 use Rattle.entry.specs.Given.{minimise-inputs, eliminate-inputs}
 use Rattle.planner.specs.Calls.{Answer, refused, answered, plan-in, reply, public-minimise, public-eliminate}
@@ -55,7 +55,8 @@ reply-fewer s none x l e =
       stops = omega (arith, same-length (flat (x .plan)) (flat (plan-in s)) e, flat-few s);
     }
 
-every : (plan : Plan) → All (λ r. Unit {0}) plan
+-- of every route nothing is asked
+pub every : (plan : Plan) → All (λ r. Unit {0}) plan
 every [] = all-nil
 every (r ∷ rs) = all-cons tt (every rs)
 

@@ -1,22 +1,21 @@
 -- The two calls of a sheet, one after the other, and what may be relied on where eliminate answers. Assumes nothing.
-use Prim.Native.Nat.{ℕ, zero, suc, _+_, _*_, _^_, _≤_, _<_}
+use Prim.Native.Nat.{ℕ, suc, _*_, _^_, _≤_, _<_}
 use mathlib.Core.Path.{_≡_, refl, sym, ap, subst, _∙_}
-use mathlib.Core.List.{List, [], _∷_, map}
+use mathlib.Core.List.{List, [], _∷_}
 use mathlib.Core.Option.{Option, none, some}
 use native.Mathlib.Nat.{mul-le-mul-right}
 use native.Mathlib.Omega.{arith}
-use lib.ListN.{length, take, getD, length-take}
+use lib.ListN.{length, take, length-take}
 use lib.IntN.{ℤ}
 use lib.Ieee.{Float}
-use Rattle.laws.specs.All.{All, all-nil, all-cons, all-of, all-map, all-take}
+use Rattle.laws.specs.All.{All, all-cons, all-of, all-map, all-take}
 use Rattle.models.specs.declared.vehicle.Vehicle.{Vehicle}
-use Rattle.models.specs.Problem.{Problem, problem, matrix, depot, Stops, Demands}
+use Rattle.models.specs.Problem.{Problem, depot, Stops, Demands}
 use Rattle.plan.specs.Plan.{Plan, Slices, Lent, split, flat}
 use Rattle.plan.specs.Slices.{length-split, flat-split-all}
 use Rattle.local_search.specs.Planned.{planned-stops}
 use Rattle.local_search.specs.declared.rounds.Counts.{Counts}
 use Rattle.local_search.specs.declared.rounds.Reduction.{Reduction}
-use Rattle.local_search.specs.Rounds.{Result}
 use Rattle.route_elimination.specs.Eliminate.{eliminate-routes}
 use Rattle.route_elimination.specs.Eliminated.{eliminate-keeps}
 use Rattle.ejection_pool.specs.Running.{allowance}
@@ -25,7 +24,7 @@ use Rattle.entry.specs.Given.{entry, eliminate-inputs}
 use Rattle.entry.proofs.EntryLaws.{own-rows}
 use Rattle.entry.proofs.AdmittedLaws.{Accepted, eliminate-accepted}
 use Rattle.planner.specs.Calls.{refused, answered, Reply, plan-in, reply, public-minimise, public-eliminate}
-use Rattle.planner.specs.Run.{Call, minimise, eliminate, call, run, Kept}
+use Rattle.planner.specs.Run.{Call, eliminate, call, run}
 use Rattle.planner.specs.declared.calls.Replied.{Replied}
 use Rattle.planner.specs.declared.calls.Replied.the-variants.{Refused as NotReplied, Answered as RepliedAs}
 use Rattle.planner.specs.Told.{slices-of, work-of, reply-of}
@@ -39,7 +38,7 @@ use Rattle.listing.proofs.ReadLaws.{read, listing-reads}
 use Rattle.listing.proofs.BoundLaws.{listing-fits, refusal-fits}
 use Rattle.sheet_laws.specs.Short.{Short}
 use Rattle.sheet_laws.proofs.Distances.{distance-prints}
-use Rattle.sheet_planner.proofs.Fits.{flat-take}
+use Rattle.sheet_planner.proofs.Fits.{flat-take, every}
 use Rattle.sheet_planner.specs.Printed.{work, eliminated, planned, sheet-of, printed}
 
 -- ---- an accepted call
@@ -91,10 +90,6 @@ few-routes p s d t e = go (refusal (eliminate-inputs p s work)) e
   where
     x : Plan
     x = eliminate-routes p (plan-in s)
-
-    every : (plan : Plan) → All (λ r. Unit {0}) plan
-    every [] = all-nil
-    every (r ∷ rs) = all-cons tt (every rs)
 
     go : (o : Option ℕ) → said d t ≡ reply s o (record { plan = x; counts = record { steps = 0; draws = 0 } }) → d .routes ≤ length (s .lengths)
     go (some k) f =
