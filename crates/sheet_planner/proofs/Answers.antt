@@ -11,7 +11,7 @@ use Rattle.local_search.specs.declared.rounds.Counts.{Counts}
 use Rattle.local_search.specs.declared.rounds.Reduction.{Reduction}
 use Rattle.ejection_pool.specs.Running.{allowance}
 use Rattle.route_minimization.specs.Minimize.{minimize-routes}
-use Rattle.route_elimination.specs.Eliminate.{eliminate-routes}
+use Rattle.elimination_moves.specs.Eliminate.{eliminate-routes}
 use Rattle.entry.specs.Table.{refusal}
 use Rattle.entry.specs.Given.{minimise-inputs, eliminate-inputs}
 use Rattle.planner.specs.Calls.{plan-in, reply, public-minimise, public-eliminate}

@@ -19,8 +19,8 @@ use Rattle.ejection_pool.specs.Pool.{Allowance}
 use Rattle.ejection_pool.specs.Running.{allowance}
 use Rattle.route_minimization.specs.Minimize.{minimize-routes}
 use Rattle.route_minimization.specs.Minimized.{minimize-keeps}
-use Rattle.route_elimination.specs.Eliminate.{eliminate-routes}
-use Rattle.route_elimination.specs.Eliminated.{eliminate-keeps}
+use Rattle.elimination_moves.specs.Eliminate.{eliminate-routes}
+use Rattle.elimination_moves.specs.Eliminated.{eliminate-keeps}
 use Rattle.entry.specs.Table.{Work, refusal}
 use Rattle.entry.specs.Given.{minimise-inputs, eliminate-inputs}
 use Rattle.planner.specs.Calls.{Answer, refused, answered, plan-in, reply, public-minimise, public-eliminate}

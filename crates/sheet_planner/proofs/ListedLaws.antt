@@ -16,8 +16,8 @@ use Rattle.plan.specs.Slices.{length-split, flat-split-all}
 use Rattle.local_search.specs.Planned.{planned-stops}
 use Rattle.local_search.specs.declared.rounds.Counts.{Counts}
 use Rattle.local_search.specs.declared.rounds.Reduction.{Reduction}
-use Rattle.route_elimination.specs.Eliminate.{eliminate-routes}
-use Rattle.route_elimination.specs.Eliminated.{eliminate-keeps}
+use Rattle.elimination_moves.specs.Eliminate.{eliminate-routes}
+use Rattle.elimination_moves.specs.Eliminated.{eliminate-keeps}
 use Rattle.ejection_pool.specs.Running.{allowance}
 use Rattle.entry.specs.Table.{too-few, table, first-applying, refusal}
 use Rattle.entry.specs.Given.{entry, eliminate-inputs}
