@@ -74,7 +74,7 @@ module _ (p : Problem) (s : Slices) where
       reply-fewer s (refusal (eliminate-inputs p s w)) (record { plan = eliminate-routes p (plan-in s); counts = record { steps = 0; draws = 0 } }) (m .no-longer) (m .places)
 
 unless-fits : (a : Answer Reduction) (f : Reduction → List ℕ) → ((d : Reduction) → length (f d) ≤ 6000) → length (unless-refused a f) ≤ 6000
-unless-fits (refused n) f h = refusal-fits n
+unless-fits (refused n) f h = refusal-fits _
 unless-fits (answered d) f h = h d
 
 eliminated-fits : (p : Problem) (s : Slices) (counts : Counts) (given : ℕ) → length (s .lengths) ≤ 64 → length (s .stops) ≤ 64 → length (eliminated p s counts given) ≤ 6000
@@ -83,7 +83,7 @@ eliminated-fits p s counts given r t =
     let e = public-eliminate p s work in
     let f = eliminate-fewer p s work in
     unless-fits (e .answer) _
-    (λ d. listing-fits p (take (d .routes) (plan-in (e .slices))) counts given
+    (λ d. listing-fits p (take (d .routes) (plan-in (e .slices))) _ _
     (omega (arith, length-take (d .routes) (plan-in (e .slices)), length-split (e .slices .lengths) (e .slices .stops), f .routes, r))
     (omega (arith, flat-take (d .routes) (plan-in (e .slices)), flat-few (e .slices), f .stops, t)))
 
@@ -94,7 +94,7 @@ planned-fits x r t =
     let m = public-minimise (x .problem) (x .plan) given work in
     let f = minimise-fewer (x .problem) (x .plan) given work in
     unless-fits (m .answer) _
-    (λ d. eliminated-fits (x .problem) (m .slices) (d .counts) (length (x .plan .lengths)) (omega (arith, f .routes, r)) (omega (arith, f .stops, t)))
+    (λ d. eliminated-fits (x .problem) (m .slices) _ _ (omega (arith, f .routes, r)) (omega (arith, f .stops, t)))
 
 -- "The output buffer is large enough": whatever the text
 pub printed-fits : (s : List ℕ) → length (printed s) ≤ 6000
