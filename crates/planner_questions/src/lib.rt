@@ -165,12 +165,12 @@ pub fn effective_cost(
         vehicle,
     );
     if r != 0 {
-        return Number::Refused(r);
+        return Number::Refused(r); // not weighed
     }
     let cost = eval::effective_cost(
         route,
         vehicle.depot_id,
-        RouteLimits::of(vehicle), // over a limit a route costs infinity
+        RouteLimits::of(vehicle),
         n,
         distances,
         times,
