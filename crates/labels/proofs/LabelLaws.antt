@@ -44,12 +44,18 @@ module _ (l : Label) (ready : Float) (taken : Taken) (c : Customer) where
 
 pub ruleset serve-at-laws = (serve-none, serve-in-time, serve-dead, serve-late)
 
+-- ---- kept: a break that is made again is the break
+
+pub kept-at : (t : Taken) (i : ℕ) (start : Float) → t ≡ TakenAt i start → TakenAt i start ≡ t
+kept-at t i start e = sym e
+
 -- ---- serve: no break; the break past its latest; the break taken
 
 module _ (l : Label) (travel : Float) (i : ℕ) (rest : Rest) (c : Customer) where
-  pub serve-on : (v : Served) → rest ≡ NoRest → v ≡ serve-at l (l .time ⊕ travel) (l .rest) c → v ≡ serve l travel i rest c
+  pub serve-on : (v : Served) (taken : Taken) → rest ≡ NoRest → taken ≡ l .rest → v ≡ serve-at l (l .time ⊕ travel) taken c → v ≡ serve l travel i rest c
   unfolding serve
-  serve-on v e ev = ev ∙ sym (ap (λ (x : Rest). pausing l (l .time ⊕ travel) i x c) e)
+  serve-on v taken e et ev =
+      ev ∙ ap (λ (t : Taken). serve-at l (l .time ⊕ travel) t c) et ∙ sym (ap (λ (x : Rest). pausing l (l .time ⊕ travel) i x c) e)
 
   pub serve-past : (a b d start : Float) → rest ≡ Break a b d → start ≡ max (l .time ⊕ travel) a → lt b start ≡ true → Dead ≡ serve l travel i rest c
   unfolding serve

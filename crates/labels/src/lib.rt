@@ -63,6 +63,16 @@ pub fn serve_at(label: Label, ready: f64, taken: Taken, customer: Customer) -> S
     })
 }
 
+// The break as it was taken, made again: a copy of the whole would carry the bytes beside its tag from stop to stop.
+fn kept(taken: Taken) -> Taken
+    ensures { λ r. ⌜ r ≡ taken ⌝ }
+{
+    match taken {
+        Taken::No => Taken::No,
+        Taken::At(index, start) => Taken::At(index, start),
+    }
+}
+
 // One stop of a label's route: the travel to it, the break first if `rest` has one, the wait and the service.
 // Dead where the break cannot start by its latest.
 pub fn serve(label: Label, travel: f64, index: usize, rest: Rest, customer: Customer) -> Served
@@ -71,7 +81,7 @@ pub fn serve(label: Label, travel: f64, index: usize, rest: Rest, customer: Cust
     let arrival = label.time + travel;
     let Rest::Break(earliest, latest, duration) = rest else {
         let taken = label.rest;
-        return serve_at(label, arrival, taken, customer);
+        return serve_at(label, arrival, kept(taken), customer);
     };
     let start = max(arrival, earliest);
     if start > latest {

@@ -10,6 +10,9 @@ enum-known-rest c = search needs
 enum-told : tie.Need-enum-told
 enum-told c = search needs
 
+kept-requires : tie.Need-kept-requires
+kept-requires c κs = search needs
+
 serve-at-requires : tie.Need-serve-at-requires
 serve-at-requires c κs = search needs
 
@@ -34,6 +37,7 @@ serve-spec =
     (tie.spec
     enum-known-rest
     enum-told
+    kept-requires
     serve-at-requires
     returns
     max-requires
