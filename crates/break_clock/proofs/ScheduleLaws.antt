@@ -263,6 +263,20 @@ pub front-few : (r : Riding) (depot pos : ℕ) (route : List ℕ) → r ≡ set-
     → r .clock .index + length (take pos route) ≤ 257
 front-few r depot pos route e l h = rw (e, length-take-le pos route h) (omega arith)
 
+-- a ride over one stop is the drive to it
+onward-on : (x : Ridden) → onward x RideAt ≡ x
+onward-on RideStuck = refl
+onward-on (RideAt r) = refl
+
+ride-one : (cs : Customers) (m : DistanceMatrix) (b : VehicleBreak) (r : Riding) (c : ℕ) (x : Ridden)
+    → x ≡ ride-all cs m b (c ∷ []) r → x ≡ ride cs m b r c
+unfolding walk
+ride-one cs m b r c x ex = ex ∙ onward-on (ride cs m b r c)
+
+pub one-there : (cs : Customers) (m : DistanceMatrix) (b : VehicleBreak) (r v : Riding) (c : ℕ) (x : Ridden) (n : ℕ) → c < n
+    → x ≡ ride-all cs m b (c ∷ []) r → x ≡ RideAt v → v .clock .prev < n
+one-there cs m b r v c x n h ex e = ride-there cs m b r v c x n h (ride-one cs m b r c x ex) e
+
 module _ (cs : Customers) (m : DistanceMatrix) (b : VehicleBreak) (route : List ℕ) (pos c : ℕ) (first : Riding) where
   parts : ride-all cs m b (insert-at pos c route) first
       ≡ onward (ride-all cs m b (take pos route) first) (λ t. onward (ride cs m b t c) (λ u. ride-all cs m b (drop pos route) u))
@@ -271,13 +285,13 @@ module _ (cs : Customers) (m : DistanceMatrix) (b : VehicleBreak) (route : List 
   pub trial-front : (x : Ridden) → x ≡ ride-all cs m b (take pos route) first → x ≡ RideStuck → RideStuck ≡ ride-all cs m b (insert-at pos c route) first
   trial-front x ex e = sym (parts ∙ rw (← ex, e))
 
-  pub trial-stop : (r : Riding) (x y : Ridden) → x ≡ ride-all cs m b (take pos route) first → x ≡ RideAt r → y ≡ ride cs m b r c → y ≡ RideStuck
+  pub trial-stop : (r : Riding) (x y : Ridden) → x ≡ ride-all cs m b (take pos route) first → x ≡ RideAt r → y ≡ ride-all cs m b (c ∷ []) r → y ≡ RideStuck
       → RideStuck ≡ ride-all cs m b (insert-at pos c route) first
-  trial-stop r x y ex e ey f = sym (parts ∙ rw (← ex, e, ← ey, f))
+  trial-stop r x y ex e ey f = sym (parts ∙ rw (← ex, e, ← ride-one cs m b r c y ey, f))
 
-  pub trial-tail : (r v : Riding) (x y z : Ridden) → x ≡ ride-all cs m b (take pos route) first → x ≡ RideAt r → y ≡ ride cs m b r c → y ≡ RideAt v
+  pub trial-tail : (r v : Riding) (x y z : Ridden) → x ≡ ride-all cs m b (take pos route) first → x ≡ RideAt r → y ≡ ride-all cs m b (c ∷ []) r → y ≡ RideAt v
       → z ≡ ride-all cs m b (drop pos route) v → z ≡ ride-all cs m b (insert-at pos c route) first
-  trial-tail r v x y z ex e ey f ez = ez ∙ sym (parts ∙ rw (← ex, e, ← ey, f))
+  trial-tail r v x y z ex e ey f ez = ez ∙ sym (parts ∙ rw (← ex, e, ← ride-one cs m b r c y ey, f))
 
 pub ruleset trial-laws = (trial-front, trial-stop, trial-tail)
 
@@ -287,8 +301,8 @@ module _ (cs : Customers) (m : DistanceMatrix) (b : VehicleBreak) (route : List 
   front-counted : r .clock .index ≡ pos
   front-counted = omega (arith, ride-count cs m b (take pos route) (set-out depot) r (sym ex ∙ e), length-take-le pos route h)
 
-  pub front-index : length route ≤ 256 → r .clock .index ≤ 256
-  front-index few = omega (arith, front-counted)
+  pub front-room : length route ≤ 256 → r .clock .index + 1 ≤ 257
+  front-room few = omega (arith, front-counted)
 
-  pub stop-index : (c : ℕ) (v : Riding) (y : Ridden) → y ≡ ride cs m b r c → y ≡ RideAt v → v .clock .index ≡ pos + 1
-  stop-index c v y ey f = omega (arith, front-counted, ride-counted cs m b r v c y ey f)
+  pub stop-index : (c : ℕ) (v : Riding) (y : Ridden) → y ≡ ride-all cs m b (c ∷ []) r → y ≡ RideAt v → v .clock .index ≡ pos + 1
+  stop-index c v y ey f = omega (arith, front-counted, ride-counted cs m b r v c y (ride-one cs m b r c y ey) f)

@@ -3,7 +3,7 @@ use Prim.Native.Nat.{ℕ, _+_, _-_, _^_, _≤_, _<_}
 use native.Mathlib.Nat.{le-trans}
 use native.Mathlib.Omega.{arith}
 use mathlib.Core.Path.{_≡_, sym, subst}
-use mathlib.Core.List.{List}
+use mathlib.Core.List.{List, [], _∷_}
 use lib.ListN.{length, getD, take, drop, length-take, length-drop}
 use lib.Seq.{length-take-le, getD-take, getD-drop, take-all}
 use mir.Syntax.{w64}
@@ -23,6 +23,10 @@ pub ruleset stop-laws = (needs, stop-below, count-up)
 
 pub stops-all : (n : ℕ) (stops : List ℕ) → Stops n stops → All (λ c. c < n) stops
 stops-all n stops s = all-of stops 0 (s .each)
+
+-- one stop is a route's part too
+pub one-stop : (n c : ℕ) → c < n → Stops n (c ∷ [])
+one-stop n c h = record { few = omega arith; each = λ k g. let e : k ≡ 0 = omega arith in rw e h }
 
 -- ---- parts of a route, as `&route[..pos]` and `&route[pos..]` hand them on
 

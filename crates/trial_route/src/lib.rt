@@ -9,7 +9,6 @@ ghost use Rattle.break_clock.specs.Schedule.{ride-all, set-out as ride-out};
 ghost use Rattle.evaluation.specs.Check.{reach-all, set-out, route-feasible};
 use break_clock::schedule::Ridden;
 use break_clock::schedule::Riding;
-use break_clock::schedule::ride;
 use break_clock::schedule::ride_all;
 use break_clock::schedule::ride_home;
 use evaluation::check::Reached;
@@ -225,7 +224,8 @@ fn ride_tail(
     )
 }
 
-// The walk of the clock over the route with c put in before position pos.
+// The walk of the clock over the route with c put in before position pos. The drive to c is a walk over a slice of one stop:
+// so `ride` has one caller, the loop of `ride_all`, and is compiled into it.
 fn trial_ridden(
     route: &[u16],
     pos: usize,
@@ -263,10 +263,11 @@ fn trial_ridden(
     let Ridden::At(before) = front else {
         return Ridden::Stuck;
     };
-    let stop = ride(
+    let one = [c as u16];
+    let stop = ride_all(
         before,
         rest,
-        c,
+        &one,
         n,
         distances,
         times,

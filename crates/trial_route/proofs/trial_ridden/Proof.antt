@@ -1,6 +1,7 @@
 -- `trial_ridden` meets its contract.
 use borrow.Author.Needs.{needs}
-use Rattle.break_clock.proofs.ScheduleLaws.{front-there, front-index, ride-there, stop-index, trial-laws}
+use Rattle.break_clock.proofs.StopLaws.{one-stop}
+use Rattle.break_clock.proofs.ScheduleLaws.{front-there, front-room, one-there, stop-index, trial-laws}
 use Rattle.trial_route.proofs.trial_ridden.Statement.{statement}
 use Rattle.trial_route.proofs.trial_ridden.Tie as tie
 
@@ -16,8 +17,16 @@ enum-told c = search needs
 returns : tie.Need-returns
 returns c = search trial-laws
 
-ride-requires : tie.Need-ride-requires
-ride-requires c κs = let p = c .before .before .before .before .before .before .before .before .before .before .before .before .pre in search (needs, front-there, front-index, p)
+cast-t19 : tie.Need-cast-t19
+cast-t19 c = search needs
+
+slice-aggregate-ride-all : tie.Need-slice-aggregate-ride-all
+slice-aggregate-ride-all c = search needs
+
+ride-all-requires : tie.Need-ride-all-requires
+ride-all-requires c κs =
+    let p = c .before .before .before .before .before .before .before .before .before .before .before .before .before .pre in
+    (p .0, (search (front-there, p), search (one-stop, p), search (front-room, p)))
 
 enum-known-stop : tie.Need-enum-known-stop
 enum-known-stop c = search needs
@@ -29,7 +38,12 @@ returns-2 : tie.Need-returns-2
 returns-2 c = search trial-laws
 
 ride-tail-requires : tie.Need-ride-tail-requires
-ride-tail-requires c κs = let p = c .before .before .before .before .before .before .before .before .before .before .before .before .before .before .before .before .pre in let f = c .before .before .before .before .before .before .before .ride-front in let g = c .before .before .before .before .known-told in (p .0, (search (ride-there, p), p .1 .2, p .1 .3, search (stop-index, p, f, g)))
+ride-tail-requires c κs =
+    let p = c .before .before .before .before .before .before .before .before .before .before .before .before .before .before .before .before .before .pre in
+    let f = c .before .before .before .before .before .before .before .before .ride-front in
+    let g = c .before .before .before .before .before .before .front in
+    let h = c .before .before .before .ride-all in
+    (p .0, (search (one-there, p), p .1 .2, p .1 .3, stop-index _ _ _ _ _ _ _ _ (p .1 .2) (f .ensures) (g .given .1) _ _ _ (h .ensures) (c .before .stop .given .1)))
 
 returns-3 : tie.Need-returns-3
 returns-3 c = search trial-laws
@@ -42,7 +56,9 @@ trial-ridden-spec =
     enum-known-front
     enum-told
     returns
-    ride-requires
+    cast-t19
+    slice-aggregate-ride-all
+    ride-all-requires
     enum-known-stop
     enum-told-2
     returns-2
