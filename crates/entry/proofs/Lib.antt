@@ -7,5 +7,7 @@ pub mod EntryLaws
 pub mod SumLaws
 -- row 6 in code
 pub mod StopLaws
+-- row 6 in code: the stops so far, marked
+pub mod MarkLaws
 -- what a call that is not refused may rely on
 pub mod AdmittedLaws

@@ -46,7 +46,7 @@ module _ (n c : ℕ) (vehicle : Vehicle) (before : List ℕ) where
   unfolding stop-passes
   stop-depot h e = rw (lt-ltb c n h, eq-eqb c (vehicle .«depot_id») e)
 
-  pub stop-new : (v : Bool) → c < n → (c ≡ vehicle .«depot_id» → ⊥) → v ≡ any (eqb c) before → not v ≡ stop-passes (of-distances n [] vehicle) before c
+  pub stop-new : (v : Bool) → c < n → (c ≡ vehicle .«depot_id» → ⊥) → v ≡ not (any (eqb c) before) → v ≡ stop-passes (of-distances n [] vehicle) before c
   unfolding stop-passes
   stop-new v h e f = rw (lt-ltb c n h, ne-eqb c (vehicle .«depot_id») e, f)
 

@@ -5,3 +5,5 @@ pub mod Table
 pub mod Given
 -- the table's rows in groups, as the code asks them
 pub mod Rows
+-- row 6 in code: the stops so far, marked
+pub mod Marks

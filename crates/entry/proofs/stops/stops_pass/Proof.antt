@@ -5,21 +5,26 @@ use lib.ListN.{length, getD, take}
 use Rattle.break_clock.proofs.StopLaws.{part-laws}
 use Rattle.laws.specs.Passed.{Passed, every-laws}
 use Rattle.models.specs.Problem.{of-distances}
+use Rattle.entry.specs.Marks.{Marks}
 use Rattle.entry.specs.Table.{stop-passes, stops-pass}
+use Rattle.entry.proofs.MarkLaws.{marks-start, marks-more}
 use Rattle.entry.proofs.stops.stops_pass.Statement.{statement}
 use Rattle.entry.proofs.stops.stops_pass.Tie as tie
 
 abbrev Inv-loop : tie.InvT-loop
-Inv-loop n vehicle stops i₀ i = Passed (λ k. stop-passes (of-distances n [] vehicle) (take k stops) (getD stops k 0)) (length stops) i
+Inv-loop n vehicle stops seen₀ i₀ seen i = Passed (λ k. stop-passes (of-distances n [] vehicle) (take k stops) (getD stops k 0)) (length stops) i × Marks seen (take i stops)
 
 abbrev μ-loop : tie.MeasureT-loop
-μ-loop n vehicle stops i₀ i = length stops - i
+μ-loop n vehicle stops seen₀ i₀ seen i = length stops - i
 
 loop-holds : tie.Need-loop-holds Inv-loop μ-loop
-loop-holds c = search every-laws
+loop-holds c = (search every-laws, marks-start)
 
 slice-aggregate-stop-passes : tie.Need-slice-aggregate-stop-passes Inv-loop μ-loop
 slice-aggregate-stop-passes c = search part-laws
+
+slice-aggregate-stop-passes-2 : tie.Need-slice-aggregate-stop-passes-2 Inv-loop μ-loop
+slice-aggregate-stop-passes-2 c = search part-laws
 
 mul-stop-passes : tie.Need-mul-stop-passes Inv-loop μ-loop
 mul-stop-passes c = search every-laws
@@ -41,7 +46,7 @@ loop-less : tie.Need-loop-less Inv-loop μ-loop
 loop-less c = search every-laws
 
 loop-again : tie.Need-loop-again Inv-loop μ-loop
-loop-again c = search every-laws
+loop-again c = (search every-laws, search (every-laws, marks-more))
 
 returns-2 : tie.Need-returns-2 Inv-loop μ-loop
 unfolding stops-pass
@@ -55,6 +60,7 @@ stops-pass-spec =
     μ-loop
     loop-holds
     slice-aggregate-stop-passes
+    slice-aggregate-stop-passes-2
     mul-stop-passes
     shared-slice-read-stop-passes
     stop-passes-requires
