@@ -5,7 +5,7 @@ use Rattle.sheet_format.specs.Sample.{sample}
 use Rattle.sheet_format.specs.Opened.{opened as form}
 use Rattle.listing.specs.Listing.{opened as lines}
 use Rattle.planner.specs.Opened.{opened as calls}
-use Rattle.sheet_planner.specs.Printed.{eliminated, planned, printed}
+use Rattle.sheet_answers.specs.Printed.{eliminated, planned, printed}
 
 -- Every definition, for a theorem that is computed: `unfolding opened`.
 unfoldable pub opened : Unit {0}

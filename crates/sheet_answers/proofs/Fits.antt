@@ -28,7 +28,7 @@ use Rattle.sheet_text.specs.Text.{Reading, refused as refused-reading, got}
 use Rattle.sheet_format.specs.Form.{Sheet, sheet}
 use Rattle.sheet_laws.proofs.Read.{sheet-holds}
 use Rattle.listing.proofs.BoundLaws.{listing-fits, refusal-fits}
-use Rattle.sheet_planner.specs.Printed.{work, unless-refused, eliminated, planned, printed-of, printed}
+use Rattle.sheet_answers.specs.Printed.{work, unless-refused, eliminated, planned, printed-of, printed}
 
 -- the stops of some of a plan's routes are no more than all
 pub flat-take : (k : ℕ) (plan : Plan) → length (flat (take k plan)) ≤ length (flat plan)

@@ -1,10 +1,10 @@
--- `steps::list_planned` meets its contract. Assumes nothing.
+-- `list_planned` meets its contract. Assumes nothing.
 use mathlib.Core.Path.{_∙_}
 use native.Mathlib.Omega.{arith}
 use borrow.Author.Needs.{needs}
-use Rattle.sheet_planner.proofs.ListedLaws.{refusal-room, written-as, minimise-refuses, minimise-goes-on}
-use Rattle.sheet_planner.proofs.steps.list_planned.Statement.{statement}
-use Rattle.sheet_planner.proofs.steps.list_planned.Tie as tie
+use Rattle.sheet_answers.proofs.ListedLaws.{refusal-room, written-as, minimise-refuses, minimise-goes-on}
+use Rattle.sheet_calls.proofs.list_planned.Statement.{statement}
+use Rattle.sheet_calls.proofs.list_planned.Tie as tie
 
 minimise-requires : tie.Need-minimise-requires
 minimise-requires c κs = search needs

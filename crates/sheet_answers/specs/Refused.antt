@@ -11,7 +11,7 @@ use Rattle.entry.specs.Given.{minimise-inputs}
 use Rattle.sheet_text.specs.Text.{Reading, refused, got}
 use Rattle.sheet_format.specs.Form.{Sheet, sheet}
 use Rattle.listing.specs.Listing.{listing}
-use Rattle.sheet_planner.specs.Printed.{work}
+use Rattle.sheet_answers.specs.Printed.{work}
 
 -- the number that reading came to, or the first row of the table that applies to what was read
 abbrev pub refusal-of : Reading Sheet → Option ℕ

@@ -38,8 +38,8 @@ use Rattle.listing.proofs.ReadLaws.{read, listing-reads}
 use Rattle.listing.proofs.BoundLaws.{listing-fits, refusal-fits}
 use Rattle.sheet_laws.specs.Short.{Short}
 use Rattle.sheet_laws.proofs.Distances.{distance-prints}
-use Rattle.sheet_planner.proofs.Fits.{flat-take, every}
-use Rattle.sheet_planner.specs.Printed.{work, eliminated, planned, sheet-of, printed}
+use Rattle.sheet_answers.proofs.Fits.{flat-take, every}
+use Rattle.sheet_answers.specs.Printed.{work, eliminated, planned, sheet-of, printed}
 
 -- ---- an accepted call
 

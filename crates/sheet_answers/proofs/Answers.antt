@@ -19,9 +19,9 @@ use Rattle.planner.specs.Run.{minimise, call}
 use Rattle.sheet_text.specs.Text.{Reading, refused, got}
 use Rattle.sheet_format.specs.Form.{Sheet, sheet, given}
 use Rattle.listing.specs.Listing.{refusal-line}
-use Rattle.sheet_planner.specs.Printed.{work, eliminated, planned, printed-of, printed}
-use Rattle.sheet_planner.specs.Refused.{refusal-of, sheet-refusal, Listed}
-use Rattle.sheet_planner.proofs.ListedLaws.{eliminate-follows}
+use Rattle.sheet_answers.specs.Printed.{work, eliminated, planned, printed-of, printed}
+use Rattle.sheet_answers.specs.Refused.{refusal-of, sheet-refusal, Listed}
+use Rattle.sheet_answers.proofs.ListedLaws.{eliminate-follows}
 
 -- ---- a sheet that is refused
 

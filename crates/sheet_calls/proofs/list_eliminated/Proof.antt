@@ -1,9 +1,9 @@
--- `steps::list_eliminated` meets its contract. Assumes nothing.
+-- `list_eliminated` meets its contract. Assumes nothing.
 use native.Mathlib.Omega.{arith}
 use borrow.Author.Needs.{needs}
-use Rattle.sheet_planner.proofs.ListedLaws.{refusal-room, written-as, eliminate-refuses, eliminate-lists, eliminate-asks}
-use Rattle.sheet_planner.proofs.steps.list_eliminated.Statement.{statement}
-use Rattle.sheet_planner.proofs.steps.list_eliminated.Tie as tie
+use Rattle.sheet_answers.proofs.ListedLaws.{refusal-room, written-as, eliminate-refuses, eliminate-lists, eliminate-asks}
+use Rattle.sheet_calls.proofs.list_eliminated.Statement.{statement}
+use Rattle.sheet_calls.proofs.list_eliminated.Tie as tie
 
 eliminate-requires : tie.Need-eliminate-requires
 eliminate-requires c κs = search needs

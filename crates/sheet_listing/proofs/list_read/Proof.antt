@@ -1,13 +1,13 @@
--- `steps::list_read` meets its contract. Assumes nothing.
+-- `list_read` meets its contract. Assumes nothing.
 use native.Mathlib.Omega.{arith}
 use borrow.Author.Needs.{needs}
 use mathlib.Core.Path.{sym, subst, _∙_}
 use Rattle.sheet_text.proofs.ReadLaws.{told}
 use Rattle.sheet_whole.specs.Whole.{told-sheet, SheetWithin}
 use Rattle.sheet_laws.proofs.Read.{sheet-holds}
-use Rattle.sheet_planner.proofs.ListedLaws.{refusal-room, written-as, reader-refuses, reader-goes-on}
-use Rattle.sheet_planner.proofs.steps.list_read.Statement.{statement}
-use Rattle.sheet_planner.proofs.steps.list_read.Tie as tie
+use Rattle.sheet_answers.proofs.ListedLaws.{refusal-room, written-as, reader-refuses, reader-goes-on}
+use Rattle.sheet_listing.proofs.list_read.Statement.{statement}
+use Rattle.sheet_listing.proofs.list_read.Tie as tie
 
 sheet-requires : tie.Need-sheet-requires
 sheet-requires c κs = search needs

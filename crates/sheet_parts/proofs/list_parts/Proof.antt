@@ -1,12 +1,12 @@
--- `steps::list_parts` meets its contract. Assumes nothing.
+-- `list_parts` meets its contract. Assumes nothing.
 use native.Mathlib.Omega.{arith}
 use borrow.Author.Needs.{needs}
 use Prim.Native.Nat.{_≤_}
 use mathlib.Core.Path.{sym}
 use lib.Seq.{length-take-le}
 use Rattle.sheet_whole.proofs.ProblemLaws.{square-fits}
-use Rattle.sheet_planner.proofs.steps.list_parts.Statement.{statement}
-use Rattle.sheet_planner.proofs.steps.list_parts.Tie as tie
+use Rattle.sheet_parts.proofs.list_parts.Statement.{statement}
+use Rattle.sheet_parts.proofs.list_parts.Tie as tie
 
 mul-m : tie.Need-mul-m
 mul-m c =
