@@ -8,7 +8,7 @@ ghost use Rattle.listing.specs.Written.{Written};
 ghost use Rattle.sheet_laws.specs.Short.{Short};
 ghost use Rattle.sheet_answers.specs.Printed.{planned};
 use sheet_calls::list_planned;
-use sheet_whole::problem::Head;
+use sheet_problem::Head;
 
 // Plans what the slices hold of a sheet.
 pub fn list_parts(

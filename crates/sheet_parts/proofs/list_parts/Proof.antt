@@ -4,7 +4,7 @@ use borrow.Author.Needs.{needs}
 use Prim.Native.Nat.{_≤_}
 use mathlib.Core.Path.{sym}
 use lib.Seq.{length-take-le}
-use Rattle.sheet_whole.proofs.ProblemLaws.{square-fits}
+use Rattle.sheet_problem.proofs.ProblemLaws.{square-fits}
 use Rattle.sheet_parts.proofs.list_parts.Statement.{statement}
 use Rattle.sheet_parts.proofs.list_parts.Tie as tie
 

@@ -1,10 +1,10 @@
-// The first five sections: the problem.
+// Reads the first five sections of a sheet, the problem, into lent slices.
 ghost use mathlib.Core.Path.{_≡_};
 ghost use Prim.Native.Nat.{_≤_};
 ghost use lib.ListN.{length};
 ghost use Rattle.sheet_format.specs.Form.{with-rest, whole-problem};
 ghost use Rattle.sheet_reader.specs.Cells.{columns-of, Room};
-ghost use Rattle.sheet_whole.specs.Whole.{told-problem, ProblemWithin};
+ghost use Rattle.sheet_problem.specs.Told.{told-problem, ProblemWithin};
 use models::vehicle::Rest;
 use models::vehicle::Vehicle;
 use sheet_format::vehicle::RestAt;

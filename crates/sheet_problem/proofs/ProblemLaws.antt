@@ -15,7 +15,7 @@ use Rattle.sheet_format.specs.declared.places.Place.{Place}
 use Rattle.sheet_format.specs.Form.{vehicle, places, roads, break, with-rest, problem-of, whole-problem}
 use Rattle.sheet_reader.specs.Cells.{Columns, columns, first-cells}
 use Rattle.sheet_reader.proofs.FillLaws.{got-of, refused-of}
-use Rattle.sheet_whole.specs.Whole.{problem-in}
+use Rattle.sheet_problem.specs.Told.{problem-in}
 
 pub square-fits : (n m : ℕ) → n ≤ 64 → 4096 ≤ m → n * n ≤ m
 square-fits n m h l = omega (arith, mul-le-mul h h, l)
