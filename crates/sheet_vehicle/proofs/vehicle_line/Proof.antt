@@ -1,11 +1,11 @@
 -- `vehicle_line` meets its contract. Assumes nothing.
 use borrow.Author.Tests.{eq-eqb, ne-eqb}
 use borrow.Author.Needs.{needs}
-use Rattle.sheet_format.proofs.LineLaws.{same-vehicle, limit-bad, on-limit}
+use Rattle.sheet_vehicle.proofs.VehicleLaws.{same-vehicle, limit-bad, on-limit}
 use Rattle.sheet_text.proofs.ReadLaws.{next-refused, check-false, number-bad, signed-bad, on-signed, on-number, on-check}
 use Rattle.sheet_format.specs.Form.{vehicle-line}
-use Rattle.sheet_format.proofs.vehicle.vehicle_line.Statement.{statement}
-use Rattle.sheet_format.proofs.vehicle.vehicle_line.Tie as tie
+use Rattle.sheet_vehicle.proofs.vehicle_line.Statement.{statement}
+use Rattle.sheet_vehicle.proofs.vehicle_line.Tie as tie
 
 signed-before-requires : tie.Need-signed-before-requires
 signed-before-requires c κs = search needs

@@ -1,10 +1,10 @@
 -- `vehicle` meets its contract. Assumes nothing.
 use borrow.Author.Needs.{needs}
 use Rattle.sheet_format.specs.Form.{vehicle}
-use Rattle.sheet_format.proofs.LineLaws.{lines}
+use Rattle.sheet_vehicle.proofs.VehicleLaws.{lines}
 use Rattle.sheet_text.proofs.ReadLaws.{readings}
-use Rattle.sheet_format.proofs.vehicle.vehicle.Statement.{statement}
-use Rattle.sheet_format.proofs.vehicle.vehicle.Tie as tie
+use Rattle.sheet_vehicle.proofs.vehicle.Statement.{statement}
+use Rattle.sheet_vehicle.proofs.vehicle.Tie as tie
 
 slice-aggregate-heading : tie.Need-slice-aggregate-heading
 slice-aggregate-heading c = search needs

@@ -1,9 +1,9 @@
 -- `limit` meets its contract. Assumes nothing.
 use borrow.Author.Needs.{needs}
 use Rattle.sheet_format.specs.Form.{limit}
 use Rattle.sheet_text.proofs.ReadLaws.{readings}
-use Rattle.sheet_format.proofs.vehicle.limit.Statement.{statement}
-use Rattle.sheet_format.proofs.vehicle.limit.Tie as tie
+use Rattle.sheet_vehicle.proofs.limit.Statement.{statement}
+use Rattle.sheet_vehicle.proofs.limit.Tie as tie
 
 optional-before-requires : tie.Need-optional-before-requires
 optional-before-requires c κs = search needs

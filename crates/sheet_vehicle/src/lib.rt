@@ -1,8 +1,8 @@
-// The sections of the vehicle and of its break.
+// Reads the sections of the vehicle and of its break.
 ghost use mathlib.Core.Path.{_≡_};
 ghost use Rattle.sheet_format.specs.Form.{limit as Form·limit, vehicle-line, rest-line, break};
 ghost use Rattle.sheet_format.specs.Form.{vehicle as Form·vehicle};
-ghost use Rattle.sheet_format.specs.Told.{told-limit, told-vehicle, told-rest};
+ghost use Rattle.sheet_vehicle.specs.Told.{told-limit, told-vehicle, told-rest};
 use models::vehicle::Limit;
 use models::vehicle::Rest;
 use models::vehicle::Vehicle;
