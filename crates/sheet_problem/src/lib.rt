@@ -7,13 +7,13 @@ ghost use Rattle.sheet_reader.specs.Cells.{columns-of, Room};
 ghost use Rattle.sheet_problem.specs.Told.{told-problem, ProblemWithin};
 use models::vehicle::Rest;
 use models::vehicle::Vehicle;
+use sheet_reader::places::places;
+use sheet_roads::roads;
+use sheet_text::words::Count;
 use sheet_vehicle::RestAt;
 use sheet_vehicle::VehicleAt;
 use sheet_vehicle::rest;
 use sheet_vehicle::vehicle;
-use sheet_reader::places::places;
-use sheet_roads::roads;
-use sheet_text::words::Count;
 
 // How many places there are, how many rows of times, and the vehicle.
 pub struct Head {

@@ -6,6 +6,7 @@ ghost use Rattle.sheet_vehicle.specs.Told.{told-limit, told-vehicle, tol
 use models::vehicle::Limit;
 use models::vehicle::Rest;
 use models::vehicle::Vehicle;
+use sheet_headings::heading;
 use sheet_text::numbers::NumberAt;
 use sheet_text::numbers::OptionalAt;
 use sheet_text::numbers::SignedAt;
@@ -13,7 +14,6 @@ use sheet_text::numbers::number_before;
 use sheet_text::numbers::optional_before;
 use sheet_text::numbers::signed_before;
 use sheet_text::words::Count;
-use sheet_text::words::heading;
 
 pub enum LimitAt {
     Got(Limit, usize),

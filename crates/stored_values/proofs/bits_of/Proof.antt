@@ -1,8 +1,8 @@
--- `values::bits_of` meets its contract. Assumes nothing.
+-- `bits_of` meets its contract. Assumes nothing.
 use borrow.Author.Needs.{needs}
-use Rattle.stored.proofs.ValueLaws.{value-laws}
-use Rattle.stored.proofs.values.bits_of.Statement.{statement}
-use Rattle.stored.proofs.values.bits_of.Tie as tie
+use Rattle.stored_values.proofs.ValueLaws.{value-laws}
+use Rattle.stored_values.proofs.bits_of.Statement.{statement}
+use Rattle.stored_values.proofs.bits_of.Tie as tie
 
 returns : tie.Need-returns
 returns c = search (needs, value-laws)

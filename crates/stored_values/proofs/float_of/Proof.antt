@@ -1,8 +1,8 @@
--- `values::float_of` meets its contract. Assumes nothing.
+-- `float_of` meets its contract. Assumes nothing.
 use borrow.Author.Needs.{needs}
-use Rattle.stored.proofs.ValueLaws.{value-laws}
-use Rattle.stored.proofs.values.float_of.Statement.{statement}
-use Rattle.stored.proofs.values.float_of.Tie as tie
+use Rattle.stored_values.proofs.ValueLaws.{value-laws}
+use Rattle.stored_values.proofs.float_of.Statement.{statement}
+use Rattle.stored_values.proofs.float_of.Tie as tie
 
 returns : tie.Need-returns
 returns c = search (needs, value-laws)

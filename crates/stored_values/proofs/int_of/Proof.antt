@@ -1,10 +1,10 @@
--- `values::int_of` meets its contract. Assumes nothing.
+-- `int_of` meets its contract. Assumes nothing.
 use Prim.Native.Nat.{_-_}
 use mathlib.Core.Path.{_≡_}
 use native.Mathlib.Omega.{arith}
 use borrow.Author.Needs.{needs}
-use Rattle.stored.proofs.values.int_of.Statement.{statement}
-use Rattle.stored.proofs.values.int_of.Tie as tie
+use Rattle.stored_values.proofs.int_of.Statement.{statement}
+use Rattle.stored_values.proofs.int_of.Tie as tie
 
 cast-result : tie.Need-cast-result
 cast-result c = search needs

@@ -1,10 +1,10 @@
 -- `heading` meets its contract. Assumes nothing.
 use borrow.Author.Needs.{needs}
 use Rattle.sheet_text.proofs.TextLaws.{count-laws}
-use Rattle.sheet_text.specs.Text.{heading}
+use Rattle.sheet_headings.specs.Heading.{heading}
 use Rattle.sheet_text.proofs.ReadLaws.{readings}
-use Rattle.sheet_text.proofs.words.heading.Statement.{statement}
-use Rattle.sheet_text.proofs.words.heading.Tie as tie
+use Rattle.sheet_headings.proofs.heading.Statement.{statement}
+use Rattle.sheet_headings.proofs.heading.Tie as tie
 
 word-requires : tie.Need-word-requires
 word-requires c κs = search needs

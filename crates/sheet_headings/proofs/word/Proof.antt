@@ -3,11 +3,11 @@ use Prim.Native.Nat.{_≤_, _-_}
 use mathlib.Core.Path.{_≡_, sym, _∙_}
 use lib.ListN.{length, drop}
 use borrow.Author.Needs.{needs}
 use Rattle.sheet_text.proofs.TextLaws.{word-done, word-more, word-differs}
 use Rattle.sheet_text.proofs.ReadLaws.{next-at, next-bad}
 use Rattle.sheet_text.specs.Text.{word}
-use Rattle.sheet_text.proofs.words.word.Statement.{statement}
-use Rattle.sheet_text.proofs.words.word.Tie as tie
+use Rattle.sheet_headings.proofs.word.Statement.{statement}
+use Rattle.sheet_headings.proofs.word.Tie as tie
 
 abbrev Inv-loop : tie.InvT-loop
 Inv-loop s at w i₀ j₀ i j = (word w s at ≡ word (drop j w) s i) × (j ≤ length w)
