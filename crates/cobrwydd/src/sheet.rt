@@ -1,6 +1,6 @@
 // A sheet from bytes to bytes.
 ghost use mathlib.Core.Path.{_≡_};
-ghost use Rattle.sheet_planner.specs.Printed.{printed};
+ghost use Rattle.sheet_answers.specs.Printed.{printed};
 ghost use Rattle.cobrwydd.specs.Sheets.{prints, sheet-call};
 use sheet_planner::Printed;
 use sheet_planner::plan_sheet;

@@ -1,5 +1,2 @@
-// Writes a listing into lent bytes. Each function is given the position to write at and answers the position behind what it
-// wrote; the rest of the slice stays as it is. `put_listing` writes the whole, from position 0 on.
-pub mod lines;
-pub mod numbers;
-pub mod routes;
+// What a listing is, how long it can be, and texts that are written into a slice piece by piece.
+// This crate has no code: its definitions are in specs/, its laws in proofs/; `listing_numbers`, `listing_lines` and `listing_routes` write.

@@ -12,8 +12,8 @@ use stored::slices::read_u64;
 use stored::text::FAULT;
 use stored::text::number;
 use stored::text::number_to;
-use stored::values::float_of;
 use stored_answers::Stored;
+use stored_values::float_of;
 use verdict::changes::change_agrees;
 use verdict::questions::question_agrees;
 

@@ -13,8 +13,8 @@ use stored::slices::read_u16;
 use stored::text::FAULT;
 use stored::text::number;
 use stored::text::number_to;
-use stored::values::float_of;
-use stored::values::int_of;
+use stored_values::float_of;
+use stored_values::int_of;
 
 // A limit, and the position after it.
 struct ReadLimit {

@@ -1,26 +1,20 @@
 -- What an answer of this crate's readers says of a reading, and the reading that goes on from there: the ruleset `lines`. Assumes nothing.
-use Prim.Native.Nat.{ℕ, zero, suc, _+_}
+use Prim.Native.Nat.{ℕ, _+_}
 use mathlib.Core.Path.{_≡_, refl, ap, sym, _∙_}
 use mathlib.Core.List.{List}
 use borrow.Author.Tests.{eq-eqb, ne-eqb}
 use lib.Dec.{eqb}
 use lib.IntN.{ℤ}
-use lib.Ieee.{Float}
 use mir.Syntax.{w32}
 use mir.Val.{SFits, toZ, ofZ}
 use mir.Facts.{toZ-ofZ}
 use Rattle.models.specs.declared.customer.Customer.{Customer}
 use Rattle.models.specs.declared.customer.Window.{Window}
 use Rattle.models.specs.declared.customer.Penalty.{Penalty}
-use Rattle.models.specs.declared.vehicle.Limit.{Limit}
-use Rattle.models.specs.declared.vehicle.Rest.{Rest}
-use Rattle.models.specs.declared.vehicle.Rest.the-variants.{None as NoRest}
-use Rattle.models.specs.declared.vehicle.Vehicle.{Vehicle}
 use Rattle.sheet_text.specs.Text.{Reading, refused, got, next, Parser, minus, byte-at, byte, if-minus, either}
 use Rattle.sheet_text.proofs.ReadLaws.{told, next-got}
 use Rattle.sheet_text.proofs.TextLaws.{byte-yes}
-use Rattle.sheet_format.specs.Form.{rest-line, rest-lines}
-use Rattle.sheet_format.specs.Told.{told-window, told-penalty, told-place, told-limit, told-vehicle, told-rest}
+use Rattle.sheet_format.specs.Told.{told-window, told-penalty, told-place}
 use Rattle.sheet_format.specs.declared.places.Place.{Place}
 use Rattle.sheet_format.specs.declared.places.WindowAt.{WindowAt}
 use Rattle.sheet_format.specs.declared.places.WindowAt.the-variants.{Got as WindowGot, Bad as WindowBad}
@@ -28,8 +22,6 @@ use Rattle.sheet_format.specs.declared.places.PenaltyAt.{PenaltyAt}
 use Rattle.sheet_format.specs.declared.places.PenaltyAt.the-variants.{Got as PenaltyGot, Bad as PenaltyBad}
 use Rattle.sheet_format.specs.declared.places.PlaceAt.{PlaceAt}
 use Rattle.sheet_format.specs.declared.places.PlaceAt.the-variants.{Got as PlaceGot, Bad as PlaceBad}
-use Rattle.sheet_format.specs.declared.vehicle.LimitAt.{LimitAt}
-use Rattle.sheet_format.specs.declared.vehicle.LimitAt.the-variants.{Got as LimitGot, Bad as LimitBad}
 
 -- ---- a minus sign, seen before it is read
 
@@ -55,9 +47,6 @@ window-bad r p = told told-window
 pub penalty-bad : (r : PenaltyAt) (p : Reading Penalty) → r ≡ PenaltyBad → told-penalty r ≡ p → refused 11 ≡ p
 penalty-bad r p = told told-penalty
 
-pub limit-bad : (r : LimitAt) (p : Reading Limit) → r ≡ LimitBad → told-limit r ≡ p → refused 11 ≡ p
-limit-bad r p = told told-limit
-
 module _ {B : Type 0} where
   pub on-window : (r : WindowAt) (w : Window) (i : ℕ) (p : Reading Window) (f : Window → ℕ → Reading B) (y : Reading B) → told-window r ≡ p → r ≡ WindowGot w i → y ≡ f w i → y ≡ next p f
   on-window r w i p f y e t g = next-got p f w i y (told told-window t e) g
@@ -65,38 +54,11 @@ module _ {B : Type 0} where
   pub on-penalty : (r : PenaltyAt) (w : Penalty) (i : ℕ) (p : Reading Penalty) (f : Penalty → ℕ → Reading B) (y : Reading B) → told-penalty r ≡ p → r ≡ PenaltyGot w i → y ≡ f w i → y ≡ next p f
   on-penalty r w i p f y e t g = next-got p f w i y (told told-penalty t e) g
 
-  pub on-limit : (r : LimitAt) (w : Limit) (i : ℕ) (p : Reading Limit) (f : Limit → ℕ → Reading B) (y : Reading B) → told-limit r ≡ p → r ≡ LimitGot w i → y ≡ f w i → y ≡ next p f
-  on-limit r w i p f y e t g = next-got p f w i y (told told-limit t e) g
-
--- the break's line, where there is one
-pub rest-none : (s : List ℕ) (at m : ℕ) → m ≡ 0 → got NoRest at ≡ rest-lines m s at
-rest-none s at m e = rw e
-
-pub rest-some : (s : List ℕ) (at m : ℕ) (y : Reading Rest) → (m ≡ 0 → ⊥) → y ≡ rest-line s at → y ≡ rest-lines m s at
-rest-some s at zero y z e = absurd (z refl)
-rest-some s at (suc m) y z e = e
-
 abbrev pub place-of : ℤ → Customer → Place
 place-of d c = record { demand = d; customer = c }
-
-abbrev pub vehicle-of : ℤ → Float → Float → Limit → Limit → Vehicle
-vehicle-of v fixed per most latest =
-    record {
-      capacity = v;
-      «depot_id» = 0;
-      «fixed_cost» = fixed;
-      «cost_per_distance» = per;
-      «max_distance» = most;
-      «max_duration» = latest;
-      rest = NoRest;
-    }
 
 -- a signed number that is handed on in a struct
 pub same-place : (d : ℤ) (c : Customer) (i : ℕ) → SFits w32 d → got (place-of (toZ w32 (ofZ w32 d)) c) i ≡ got (place-of d c) i
 same-place d c i f = ap (λ (z : ℤ). got (place-of z c) i) (toZ-ofZ f)
 
-pub same-vehicle : (v : ℤ) (fixed per : Float) (most latest : Limit) (i : ℕ) → SFits w32 v
-    → got (vehicle-of (toZ w32 (ofZ w32 v)) fixed per most latest) i ≡ got (vehicle-of v fixed per most latest) i
-same-vehicle v fixed per most latest i f = ap (λ (z : ℤ). got (vehicle-of z fixed per most latest) i) (toZ-ofZ f)
-
-pub ruleset lines = (minus-here, no-minus, on-byte, window-at, window-bad, penalty-bad, limit-bad, on-window, on-penalty, on-limit, rest-none, rest-some)
+pub ruleset lines = (minus-here, no-minus, on-byte, window-at, window-bad, penalty-bad, on-window, on-penalty)

@@ -23,7 +23,8 @@ use Rattle.models.specs.declared.vehicle.Vehicle.{Vehicle}
 use Rattle.models.specs.Customer.{customers}
 use Rattle.models.specs.Problem.{Problem, DistanceMatrix, matrix}
 use Rattle.plan.specs.Plan.{Plan, Slices, flat, lengths-of}
-use Rattle.sheet_text.specs.Text.{Reading, refused, got, Parser, _>>=_, _>>_, pure, bytes, space, lf, minus, check, byte, before, number, if-minus, signed, optional, ending, repeat, line, heading}
+use Rattle.sheet_text.specs.Text.{Reading, refused, got, Parser, _>>=_, _>>_, pure, bytes, space, lf, minus, check, byte, before, number, if-minus, signed, optional, ending, repeat, line}
+use Rattle.sheet_headings.specs.Heading.{heading}
 use Rattle.sheet_format.specs.declared.places.Place.{Place}
 
 -- ---- vehicle

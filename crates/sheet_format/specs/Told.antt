@@ -2,9 +2,6 @@
 use Prim.Native.Nat.{ℕ}
 use Rattle.models.specs.declared.customer.Window.{Window}
 use Rattle.models.specs.declared.customer.Penalty.{Penalty}
-use Rattle.models.specs.declared.vehicle.Limit.{Limit}
-use Rattle.models.specs.declared.vehicle.Rest.{Rest}
-use Rattle.models.specs.declared.vehicle.Vehicle.{Vehicle}
 use Rattle.sheet_text.specs.Text.{Reading, refused, got}
 use Rattle.sheet_format.specs.declared.places.Place.{Place}
 use Rattle.sheet_format.specs.declared.places.WindowAt.{WindowAt}
@@ -13,12 +10,6 @@ use Rattle.sheet_format.specs.declared.places.PenaltyAt.{PenaltyAt}
 use Rattle.sheet_format.specs.declared.places.PenaltyAt.the-variants.{Got as PenaltyGot, Bad as PenaltyBad}
 use Rattle.sheet_format.specs.declared.places.PlaceAt.{PlaceAt}
 use Rattle.sheet_format.specs.declared.places.PlaceAt.the-variants.{Got as PlaceGot, Bad as PlaceBad}
-use Rattle.sheet_format.specs.declared.vehicle.LimitAt.{LimitAt}
-use Rattle.sheet_format.specs.declared.vehicle.LimitAt.the-variants.{Got as LimitGot, Bad as LimitBad}
-use Rattle.sheet_format.specs.declared.vehicle.VehicleAt.{VehicleAt}
-use Rattle.sheet_format.specs.declared.vehicle.VehicleAt.the-variants.{Got as VehicleGot, Refused as VehicleRefused}
-use Rattle.sheet_format.specs.declared.vehicle.RestAt.{RestAt}
-use Rattle.sheet_format.specs.declared.vehicle.RestAt.the-variants.{Got as RestGot, Refused as RestRefused}
 
 abbrev pub told-window : WindowAt → Reading Window
 told-window (WindowGot w i) = got w i
@@ -31,15 +22,3 @@ told-penalty PenaltyBad = refused 11
 abbrev pub told-place : PlaceAt → Reading Place
 told-place (PlaceGot p i) = got p i
 told-place PlaceBad = refused 11
-
-abbrev pub told-limit : LimitAt → Reading Limit
-told-limit (LimitGot l i) = got l i
-told-limit LimitBad = refused 11
-
-abbrev pub told-vehicle : VehicleAt → Reading Vehicle
-told-vehicle (VehicleGot v i) = got v i
-told-vehicle (VehicleRefused k) = refused k
-
-abbrev pub told-rest : RestAt → Reading Rest
-told-rest (RestGot r i) = got r i
-told-rest (RestRefused k) = refused k

@@ -1,3 +1,2 @@
-// The lines of a sheet: the vehicle and its break, a place. specs/Form.antt says what a sheet is.
+// The form of a sheet, which specs/Form.antt says; and the reader of a place's line.
 pub mod places;
-pub mod vehicle;

@@ -13,7 +13,8 @@ use Rattle.laws.specs.All.{All, all-nil, all-cons, all-append}
 use Rattle.laws.specs.Searches.{and-second}
 use Rattle.models.specs.Problem.{Problem, DistanceMatrix}
 use Rattle.plan.specs.Plan.{Plan, flat}
-use Rattle.sheet_text.specs.Text.{Reading, refused, got, next, Parser, bytes, space, lf, check, byte, word, before, is-digit, is-end, look, byte-at, digits, number, ending, repeat, line, heading}
+use Rattle.sheet_text.specs.Text.{Reading, refused, got, next, Parser, bytes, space, lf, check, byte, word, before, is-digit, is-end, look, byte-at, digits, number, ending, repeat, line}
+use Rattle.sheet_headings.specs.Heading.{heading}
 use Rattle.sheet_format.specs.Form.{Sheet, vehicle, places, distances, times, roads, break, draws, route-line, route-lines, routes, stop-cell, slices-of, last-run, whole-problem, problem-of, sections, sheet}
 use Rattle.sheet_laws.specs.Short.{Short}
 

@@ -12,8 +12,8 @@ use Rattle.listing.specs.Written.{Written}
 use Rattle.sheet_planner.specs.declared.Printed.{Printed}
 use Rattle.sheet_planner.specs.declared.Printed.the-variants.{NoRoom, Bytes}
 use Rattle.sheet_planner.specs.Output.{Output, output, into}
-use Rattle.sheet_planner.specs.Printed.{printed}
-use Rattle.sheet_planner.proofs.Fits.{printed-fits}
+use Rattle.sheet_answers.specs.Printed.{printed}
+use Rattle.sheet_answers.proofs.Fits.{printed-fits}
 
 module _ (out text : List ℕ) where
   pub no-room : length out < 6000 → output NoRoom out ≡ into out text

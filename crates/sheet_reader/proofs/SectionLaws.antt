@@ -5,13 +5,14 @@ use mathlib.Core.Bool.{Bool, true, false, _&&_}
 use mathlib.Core.List.{List}
 use lib.Dec.{leb}
 use borrow.Author.Tests.{leb-true}
-use Rattle.sheet_text.specs.Text.{Reading, refused, got, next, check, map-reading, heading, word, byte, number, space, lf}
+use Rattle.sheet_text.specs.Text.{Reading, refused, got, next, check, map-reading, word, byte, number, space, lf}
 use Rattle.sheet_text.specs.Told.{told-count}
 use Rattle.sheet_text.specs.declared.numbers.Next.{Next}
 use Rattle.sheet_text.specs.declared.numbers.Next.the-variants.{At as NextAt, Bad as NextBad}
 use Rattle.sheet_text.specs.declared.words.Count.{Count}
 use Rattle.sheet_text.specs.declared.words.Count.the-variants.{Got as CountGot}
 use Rattle.sheet_text.proofs.ReadLaws.{told}
+use Rattle.sheet_headings.specs.Heading.{heading}
 use Rattle.sheet_reader.specs.Cells.{filled}
 
 -- ---- counts

@@ -9,9 +9,9 @@ use models::customer::Penalty;
 use models::customer::Window;
 use sheet_format::places::PlaceAt;
 use sheet_format::places::place_line;
+use sheet_headings::heading;
 use sheet_text::numbers::Next;
 use sheet_text::words::Count;
-use sheet_text::words::heading;
 
 // READY as its cell holds it, 0 where there is none.
 fn ready_cell(window: Window) -> f64

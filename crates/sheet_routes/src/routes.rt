@@ -7,6 +7,7 @@ ghost use Rattle.sheet_text.specs.Text.{number as Text·number};
 ghost use Rattle.sheet_format.specs.Form.{stop-cell as Form·stop-cell, draws as Form·draws, route-line, route-lines, routes as Form·routes, slices-of};
 ghost use Rattle.sheet_reader.specs.Cells.{front, filled, AtMost};
 ghost use Rattle.sheet_routes.specs.Routes.{filled-count, route-behind, filled-route, filled-plan, PlanWithin};
+use sheet_headings::heading;
 use sheet_text::numbers::Next;
 use sheet_text::numbers::NumberAt;
 use sheet_text::numbers::byte;
@@ -14,7 +15,6 @@ use sheet_text::numbers::number;
 use sheet_text::numbers::number_before;
 use sheet_text::words::Count;
 use sheet_text::words::ending;
-use sheet_text::words::heading;
 
 // How many routes there are, how many stops in all, and the position after them; or the number of a refusal.
 pub enum PlanAt {

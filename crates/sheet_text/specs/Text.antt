@@ -161,14 +161,3 @@ repeat (suc n) p = do
 -- the k numbers that end a line
 abbrev pub line : ℕ → Parser (List ℕ)
 line k = repeat k (λ left. before (ending left) number)
-
--- A section's name and its count, which is judged when its token ends, before what follows is looked at:
--- "Row 12 is judged as soon as a count or length is read."
-unfoldable pub heading : List ℕ → (least most refusal : ℕ) → Parser ℕ
-heading name least most refusal = do
-  word name
-  byte space
-  n ← number
-  check (leb least n && leb n most) refusal
-  byte lf
-  pure n

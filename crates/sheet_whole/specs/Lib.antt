@@ -1,2 +1,2 @@
--- what the answers of the code mean
+-- what the answer of the code means
 pub mod Whole

@@ -4,8 +4,8 @@ ghost use Rattle.stored.specs.Counts.{Counts};
 use crate::text::FAULT;
 use crate::text::number;
 use crate::text::number_to;
-use crate::values::float_of;
-use crate::values::int_of;
+use stored_values::float_of;
+use stored_values::int_of;
 
 // How many elements were read, and the position after the last one.
 pub struct Filled {

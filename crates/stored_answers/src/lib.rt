@@ -11,7 +11,7 @@ use planner::calls::Replied;
 use planner_questions::Checked;
 use planner_questions::Evaluated;
 use planner_questions::Number;
-use stored::values::bits_of;
+use stored_values::bits_of;
 
 // An answer as seven numbers: a tag, which is 0 for a refusal, and what an answer with that tag holds, floats by their bits. What it lacks is 0.
 pub struct Stored {

@@ -2,7 +2,7 @@
 use mathlib.Core.Path.{subst, sym}
 use borrow.Author.Needs.{needs}
 use Rattle.sheet_whole.proofs.SheetLaws.{no-problem, no-draws, no-routes, no-run, sheet-got}
-use Rattle.sheet_whole.specs.Whole.{told-problem, ProblemWithin}
+use Rattle.sheet_problem.specs.Told.{told-problem, ProblemWithin}
 use Rattle.sheet_reader.specs.Cells.{AtMost}
 use Rattle.sheet_routes.specs.Routes.{PlanWithin, filled-count, filled-plan}
 use Rattle.sheet_run.specs.Run.{told-run}

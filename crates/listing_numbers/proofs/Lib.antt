@@ -1,0 +1,2 @@
+-- digits and signs
+pub mod DigitLaws

@@ -1,0 +1,2 @@
+-- the lines of routes, and a listing as a whole
+pub mod LineLaws

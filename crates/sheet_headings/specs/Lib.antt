@@ -1,0 +1,2 @@
+-- the heading of a section
+pub mod Heading

@@ -1,0 +1,2 @@
+-- the sections of the problem, one after the other
+pub mod ProblemLaws

@@ -1,0 +1,2 @@
+-- what the answer of the code means
+pub mod Told

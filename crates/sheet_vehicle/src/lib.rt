@@ -1,0 +1,128 @@
+// Reads the sections of the vehicle and of its break.
+ghost use mathlib.Core.Path.{_≡_};
+ghost use Rattle.sheet_format.specs.Form.{limit as Form·limit, vehicle-line, rest-line, break};
+ghost use Rattle.sheet_format.specs.Form.{vehicle as Form·vehicle};
+ghost use Rattle.sheet_vehicle.specs.Told.{told-limit, told-vehicle, told-rest};
+use models::vehicle::Limit;
+use models::vehicle::Rest;
+use models::vehicle::Vehicle;
+use sheet_headings::heading;
+use sheet_text::numbers::NumberAt;
+use sheet_text::numbers::OptionalAt;
+use sheet_text::numbers::SignedAt;
+use sheet_text::numbers::number_before;
+use sheet_text::numbers::optional_before;
+use sheet_text::numbers::signed_before;
+use sheet_text::words::Count;
+
+pub enum LimitAt {
+    Got(Limit, usize),
+    Bad,
+}
+
+pub enum VehicleAt {
+    Got(Vehicle, usize),
+    Refused(u8),
+}
+
+pub enum RestAt {
+    Got(Rest, usize),
+    Refused(u8),
+}
+
+// A limit, and the byte behind it.
+fn limit(s: &[u8], at: usize, b: u8) -> LimitAt
+    ensures { λ r. ⌜ told-limit r ≡ Form·limit b (now (s .entry)) at ⌝ }
+{
+    let o = optional_before(s, at, b);
+    match o {
+        OptionalAt::Got(v, i) => LimitAt::Got(Limit::At(v as f64), i),
+        OptionalAt::Nothing(i) => LimitAt::Got(Limit::None, i),
+        OptionalAt::Bad => LimitAt::Bad,
+    }
+}
+
+// The vehicle's line.
+fn vehicle_line(s: &[u8], at: usize) -> VehicleAt
+    ensures { λ r. ⌜ told-vehicle r ≡ vehicle-line (now (s .entry)) at ⌝ }
+{
+    let SignedAt::Got(capacity, i) = signed_before(s, at, 32) else {
+        return VehicleAt::Refused(11);
+    };
+    let NumberAt::Got(depot, j) = number_before(s, i, 32) else {
+        return VehicleAt::Refused(11);
+    };
+    if depot != 0 {
+        return VehicleAt::Refused(11);
+    }
+    let NumberAt::Got(fixed, k) = number_before(s, j, 32) else {
+        return VehicleAt::Refused(11);
+    };
+    let NumberAt::Got(per, l) = number_before(s, k, 32) else {
+        return VehicleAt::Refused(11);
+    };
+    let LimitAt::Got(max_distance, m) = limit(s, l, 32) else {
+        return VehicleAt::Refused(11);
+    };
+    let LimitAt::Got(max_duration, e) = limit(s, m, 10) else {
+        return VehicleAt::Refused(11);
+    };
+    VehicleAt::Got(
+        Vehicle {
+            capacity,
+            depot_id: 0,
+            fixed_cost: fixed as f64,
+            cost_per_distance: per as f64,
+            max_distance,
+            max_duration,
+            rest: Rest::None,
+        },
+        e,
+    )
+}
+
+// The section of the vehicle.
+pub fn vehicle(s: &[u8], at: usize) -> VehicleAt
+    ensures { λ r. ⌜ told-vehicle r ≡ Form·vehicle (now (s .entry)) at ⌝ }
+{
+    let h = heading(s, at, b"vehicle", 1, 1, 11);
+    match h {
+        Count::Refused(k) => VehicleAt::Refused(k),
+        Count::Got(_, i) => vehicle_line(s, i),
+    }
+}
+
+// The break's line.
+fn rest_line(s: &[u8], at: usize) -> RestAt
+    ensures { λ r. ⌜ told-rest r ≡ rest-line (now (s .entry)) at ⌝ }
+{
+    let NumberAt::Got(earliest, i) = number_before(s, at, 32) else {
+        return RestAt::Refused(11);
+    };
+    let NumberAt::Got(latest, j) = number_before(s, i, 32) else {
+        return RestAt::Refused(11);
+    };
+    let NumberAt::Got(duration, e) = number_before(s, j, 10) else {
+        return RestAt::Refused(11);
+    };
+    RestAt::Got(
+        Rest::Break(earliest as f64, latest as f64, duration as f64),
+        e,
+    )
+}
+
+// The section of the break.
+pub fn rest(s: &[u8], at: usize) -> RestAt
+    ensures { λ r. ⌜ told-rest r ≡ break (now (s .entry)) at ⌝ }
+{
+    let h = heading(s, at, b"break", 0, 1, 11);
+    match h {
+        Count::Refused(k) => RestAt::Refused(k),
+        Count::Got(m, i) => {
+            if m == 0 {
+                return RestAt::Got(Rest::None, i);
+            }
+            rest_line(s, i)
+        }
+    }
+}

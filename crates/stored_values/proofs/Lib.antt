@@ -1,0 +1,2 @@
+-- bits of floats
+pub mod ValueLaws
