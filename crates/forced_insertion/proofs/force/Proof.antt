@@ -1,11 +1,11 @@
 -- `force` meets its contract.
 use mathlib.Core.Path.{refl}
 use Rattle.local_search.specs.Planned.{planned-stops}
-use Rattle.pool_turns.proofs.PoolLaws.{leaves-inside, room-lent, room-planned, forced, forced-lent, stuck}
+use Rattle.forced_insertion.proofs.PoolLaws.{leaves-inside, room-lent, room-planned, forced, forced-lent, stuck}
 use native.Mathlib.Omega.{arith}
 use borrow.Author.Needs.{needs}
-use Rattle.pool_turns.proofs.force.Statement.{statement}
-use Rattle.pool_turns.proofs.force.Tie as tie
+use Rattle.forced_insertion.proofs.force.Statement.{statement}
+use Rattle.forced_insertion.proofs.force.Tie as tie
 
 eject-requires : tie.Need-eject-requires
 eject-requires c κs =

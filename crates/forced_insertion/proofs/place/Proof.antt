@@ -1,9 +1,9 @@
 -- `place` meets its contract.
 use Rattle.local_search.specs.Planned.{planned-stops}
-use Rattle.pool_turns.proofs.PoolLaws.{nowhere, nowhere-put, somewhere, somewhere-inside, somewhere-put}
+use Rattle.forced_insertion.proofs.PoolLaws.{nowhere, nowhere-put, somewhere, somewhere-inside, somewhere-put}
 use borrow.Author.Needs.{needs}
-use Rattle.pool_turns.proofs.place.Statement.{statement}
-use Rattle.pool_turns.proofs.place.Tie as tie
+use Rattle.forced_insertion.proofs.place.Statement.{statement}
+use Rattle.forced_insertion.proofs.place.Tie as tie
 
 cheapest-requires : tie.Need-cheapest-requires
 cheapest-requires c κs =

@@ -1,10 +1,10 @@
 -- `one_turn` meets its contract.
 use native.Mathlib.Nat.{le-refl}
-use Rattle.pool_turns.proofs.TurnLaws.{all-stops, in-pool, planned, top-place, room-left, top-failures, top-fits, one-failure-fits, turn-forcing, turn-placed, turn-forced, one-at-most, placed-lent}
+use Rattle.pool_turn.proofs.TurnLaws.{all-stops, in-pool, planned, top-place, room-left, top-failures, top-fits, one-failure-fits, turn-forcing, turn-placed, turn-forced, one-at-most, placed-lent}
 use native.Mathlib.Omega.{arith}
 use borrow.Author.Needs.{needs}
-use Rattle.pool_turns.proofs.one_turn.Statement.{statement}
-use Rattle.pool_turns.proofs.one_turn.Tie as tie
+use Rattle.pool_turn.proofs.one_turn.Statement.{statement}
+use Rattle.pool_turn.proofs.one_turn.Tie as tie
 
 sub-m : tie.Need-sub-m
 sub-m c = search needs

@@ -1,4 +1,4 @@
--- Laws of a turn of the pool, each from the facts that the code has where it needs it. Assumes nothing.
+-- Laws of a stop that goes into the routes, each from the facts that the code has where it needs it. Assumes nothing.
 use Prim.Native.Nat.{ℕ, zero, suc, _+_, _-_, _≤_, _<_}
 use native.Mathlib.Nat.{le-refl}
 use native.Mathlib.Omega.{arith}
@@ -30,11 +30,11 @@ use Rattle.ejection.specs.Eject.{eject, ejected, make-room, gone, chosen as eje
 use Rattle.ejection.specs.Ejected.{Inside, Ejects, eject-found}
 use Rattle.ejection_made.specs.Made.{stack, Made}
 use Rattle.perturbation.specs.Perturb.{Drawn, perturb}
-use Rattle.pool_turns.specs.declared.Turn.the-variants.{Stuck, More}
+use Rattle.forced_insertion.specs.declared.Turn.the-variants.{Stuck, More}
 use Rattle.ejection_pool.specs.Pool.{after-eject}
 use Rattle.ejection_pool.specs.Placing.{Placing, eject-keeps}
 use Rattle.ejection_pool.specs.Running.{Forcing, is-there, put-best, one-more}
-use Rattle.pool_turns.specs.Ends.{as-turn}
+use Rattle.forced_insertion.specs.Turned.{as-turn}
 
 -- ---- the cheapest place
 

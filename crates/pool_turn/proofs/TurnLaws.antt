@@ -21,12 +21,12 @@ use Rattle.insertion.specs.Cheapest.{cheapest}
 use Rattle.ejection.specs.Asked.{Counted}
 use Rattle.ejection.specs.Eject.{eject}
 use Rattle.ejection_made.specs.Made.{stack, stack-pop}
-use Rattle.pool_turns.specs.declared.Turn.the-variants.{Stuck, More}
+use Rattle.forced_insertion.specs.declared.Turn.the-variants.{Stuck, More}
 use Rattle.ejection_pool.specs.Pool.{State, Turn, after-cheapest, after-eject}
 use Rattle.ejection_pool.specs.Pooled.{Pooled, pooled-planned, raised}
 use Rattle.ejection_pool.specs.Running.{Running, Forcing, state, is-there, put-best, one-more}
-use Rattle.pool_turns.specs.Ends.{as-turn}
-use Rattle.pool_turns.proofs.PoolLaws.{stack-length, held-number}
+use Rattle.forced_insertion.specs.Turned.{as-turn}
+use Rattle.forced_insertion.proofs.PoolLaws.{stack-length, held-number}
 
 -- ---- the stop on top
 
