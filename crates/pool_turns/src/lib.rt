@@ -1,7 +1,6 @@
 // The turns of the ejection pool (local_search/route_minimization.rs, `Pool::empty_into`): the stops of a route go into the others, one by one, each to its
 // cheapest place or, where it has none, in for others that go onto the pool.
 ghost use mathlib.Core.Path.{_≡_};
-ghost use Prim.Native.Nat.{_<_};
 ghost use Rattle.models.specs.Problem.{problem};
 ghost use Rattle.plan.specs.Plan.{Lent, split};
 ghost use Rattle.ejection_pool.specs.Pool.{run-pool};
