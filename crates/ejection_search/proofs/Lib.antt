@@ -1,3 +1,3 @@
 -- What the functions' proofs lean on.
--- who leaves, and the routes
+-- the routes, one stop or two
 pub mod SearchLaws

@@ -3,8 +3,6 @@
 pub mod Eliminate
 -- the stops that are moved, the largest demand first
 pub mod Largest
--- the stops moved one after the other
-pub mod Moves
 -- what an attempt and the search keep
 pub mod Eliminated
 -- every definition, opened for theorems by computation

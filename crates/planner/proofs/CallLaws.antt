@@ -16,7 +16,7 @@ use Rattle.route_minimization.specs.Minimize.{minimize-routes}
 use Rattle.route_minimization.specs.Minimizing.{Searching}
 use Rattle.ejection_pool.specs.Running.{allowance}
 use Rattle.elimination_moves.specs.Eliminate.{eliminate-routes}
-use Rattle.route_elimination.specs.Eliminating.{Eliminating}
+use Rattle.elimination_round.specs.Eliminating.{Eliminating}
 use Rattle.entry.specs.Table.{Work, refusal}
 use Rattle.entry.specs.Given.{numbered, minimise-inputs, eliminate-inputs}
 use Rattle.entry.proofs.AdmittedLaws.{not-refused, minimise-accepted, eliminate-accepted}

@@ -13,14 +13,15 @@ use Rattle.local_search.specs.declared.rounds.Counts.{Counts}
 use Rattle.local_search.specs.Rounds.{Tried}
 use Rattle.insertion.specs.Cheapest.{cheapest}
 use Rattle.ejection_made.specs.Made.{stack, stack-pop}
-use Rattle.pool_turns.specs.declared.Turn.{Turn as Ended}
-use Rattle.pool_turns.specs.declared.Turn.the-variants.{Stuck, More}
+use Rattle.forced_insertion.specs.declared.Turn.{Turn as Ended}
+use Rattle.forced_insertion.specs.declared.Turn.the-variants.{Stuck, More}
 use Rattle.pool_turns.specs.declared.Emptied.the-variants.{Failed, Done}
 use Rattle.ejection_pool.specs.Pool.{Allowance, State, Turn, stop, more, failed, turn, after-cheapest, run-pool}
 use Rattle.ejection_pool.specs.Turns.{pool-more, pool-stop, emptied, at-the-limit, clocked, goes-on}
 use Rattle.ejection_pool.specs.Pooled.{Pooled, pooled-fewer, pooled-more}
 use Rattle.ejection_pool.specs.Running.{Running, state, allowance}
-use Rattle.pool_turns.specs.Ends.{as-turn, said}
+use Rattle.forced_insertion.specs.Turned.{as-turn}
+use Rattle.pool_turns.specs.Ends.{said}
 
 -- ---- the loop
 

@@ -1,3 +1,3 @@
 -- The turns of the pool.
--- how a turn and an attempt end
+-- how an attempt ends
 pub mod Ends

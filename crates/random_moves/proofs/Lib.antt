@@ -1,5 +1,5 @@
 -- Laws that this crate's proofs cite.
--- a move as it is drawn
+-- a move between two routes that are drawn
 pub mod MoveLaws
 -- the loop over the moves
 pub mod PerturbLaws

@@ -1,6 +1,4 @@
--- Laws of this crate's definitions, as the code meets them.
--- the worth of a route and of an insertion
-pub mod WorthLaws
+-- Laws of the place for a stop, as the code meets them.
 -- the positions of one route
 pub mod PlaceLaws
 -- the routes of a plan

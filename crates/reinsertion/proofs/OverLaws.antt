@@ -19,10 +19,10 @@ use Rattle.local_search.specs.declared.route.Best.{Best}
 use Rattle.local_search.specs.declared.route.Best.the-variants.{Nothing, At}
 use Rattle.local_search.specs.Route.{chosen}
 use Rattle.local_search.proofs.VisitLaws.{Visiting, visit-start, part-is, visit-more, visit-laws}
-use Rattle.reinsertion.specs.declared.place.Move.{Move}
-use Rattle.reinsertion.specs.Candidates.{candidates, by-cost, first-passing}
-use Rattle.reinsertion.specs.Place.{look-through, look-over, unless-cut, place-is}
-use Rattle.reinsertion.specs.Asked.{Asked, Room}
+use Rattle.reinsertion_candidates.specs.declared.Move.{Move}
+use Rattle.reinsertion_candidates.specs.Candidates.{candidates, by-cost, first-passing}
+use Rattle.reinsertion_candidates.specs.Place.{look-through, look-over, unless-cut, place-is}
+use Rattle.reinsertion_candidates.specs.Asked.{Asked, Room}
 
 -- a part is as long as its bounds say, at the most
 pub part-few : (at end : ℕ) (stops : List ℕ) → end - at < 256 → length (take (end - at) (drop at stops)) < 256

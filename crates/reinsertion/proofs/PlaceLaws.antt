@@ -1,4 +1,4 @@
--- Laws of specs/Place on the positions of one route, each from the facts that the code has where it needs it. Assumes nothing.
+-- Laws of the place for a stop on the positions of one route, each from the facts that the code has where it needs it. Assumes nothing.
 use Prim.Native.Nat.{ℕ, suc, _+_, _≤_, _<_}
 use native.Mathlib.Omega.{arith}
 use mathlib.Core.Path.{_≡_, refl, _∙_}
@@ -7,45 +7,23 @@ use mathlib.Core.List.{List, []}
 use mathlib.Core.Option.{Option, some}
 use lib.ListN.{length}
 use lib.IntN.{ℤ}
-use lib.Ieee.{Float, le}
+use lib.Ieee.{Float}
 use mir.Syntax.{w64}
 use mir.Val.{Fits}
 use borrow.Author.Needs.{needs}
-use Rattle.floats.specs.Binary64.{_⊕_, is-finite, total-less}
-use Rattle.laws.specs.Edits.{insert-at}
+use Rattle.floats.specs.Binary64.{is-finite}
 use Rattle.laws.specs.Loops.{loop, loop-none, loop-more, loop-end, loop-same}
 use Rattle.models.specs.declared.vehicle.Vehicle.{Vehicle}
 use Rattle.models.specs.Problem.{Problem, problem, of-demand}
 use Rattle.local_search.specs.declared.route.Insertion.{Insertion}
 use Rattle.local_search.specs.declared.route.Best.{Best}
-use Rattle.local_search.specs.declared.route.Best.the-variants.{At}
 use Rattle.local_search.specs.Route.{chosen}
-use Rattle.local_search.specs.Feasible.{has-room, checked}
+use Rattle.local_search.specs.Feasible.{has-room}
 use Rattle.local_search.proofs.ReadLaws.{room-any}
-use Rattle.reinsertion.specs.declared.place.Move.{Move}
-use Rattle.reinsertion.specs.Candidates.{worth, insertion-worth}
-use Rattle.reinsertion.specs.Place.{current, counts, comes-first, settles, look-at, look-through}
-use Rattle.reinsertion.specs.Asked.{Looked}
-
--- ---- the tests of a candidate
-
-pub counts-soft : (s v : Bool) (x : Float) → s ≡ true → v ≡ is-finite x → v ≡ (not s || is-finite x)
-counts-soft s v x e f = rw e f
-
-pub counts-hard : (s : Bool) (x : Float) → s ≡ false → true ≡ (not s || is-finite x)
-counts-hard s x e = rw e
-
-pub first-than : (x : Float) (best : Best) (found : Insertion) (v : Bool) → best ≡ At found → v ≡ total-less x (found .cost) → v ≡ comes-first x (chosen best)
-first-than x best found v e f = rw e f
-
-module _ (p : Problem) (c : ℕ) (added saved : Float) (r : List ℕ) (pos : ℕ) (x : Float) where
-  pub settled-dear : le saved (added ⊕ x) ≡ true → true ≡ settles p c added saved r pos x
-  settled-dear e = rw e
-
-  pub settled-checked : (v : Bool) → le saved (added ⊕ x) ≡ false → v ≡ checked p (insert-at pos c r) → v ≡ settles p c added saved r pos x
-  settled-checked v e f = rw e f
-
-pub ruleset test-laws = (counts-soft, counts-hard, first-than, settled-dear, settled-checked)
+use Rattle.reinsertion_candidates.specs.declared.Move.{Move}
+use Rattle.route_worth.specs.Worth.{worth, insertion-worth, current}
+use Rattle.reinsertion_candidates.specs.Place.{counts, comes-first, settles, look-at, look-through}
+use Rattle.reinsertion_candidates.specs.Asked.{Looked}
 
 -- ---- one position: no candidate that leads; it does not end the search; it does
 

@@ -1,44 +1,33 @@
--- The attempt to empty a route: the pool that it starts with, the state that it leaves, and the slices after it. Assumes nothing.
+-- The attempt to empty a route: the pool that it starts with, the plan without the route, and the slices after it. Assumes nothing.
 use Prim.Native.Nat.{ℕ, zero, suc, _+_, _-_, _≤_, _<_}
 use mathlib.Core.Path.{_≡_, refl, sym, ap, subst, _∙_}
-use mathlib.Core.Bool.{Bool, true, false}
+use mathlib.Core.Bool.{Bool}
 use mathlib.Core.List.{List, [], _∷_, _++_, reverse, reverseAux}
-use mathlib.Core.Option.{some}
-use native.Mathlib.Nat.{le-of-suc-le-suc, not-suc-le-zero}
 use native.Mathlib.Omega.{arith}
 use lib.ListN.{length, take, drop, getD, replicate, length-append, length-take, length-drop, length-reverse, length-replicate}
 use lib.Seq.{paste, take-suc, take-at, drop-at, length-take-le}
-use lib.Ieee.{Float, lt}
+use lib.Ieee.{Float}
 use mir.Syntax.{w64}
 use mir.Val.{Fits}
-use Rattle.floats.specs.Binary64.{_⊖_, _⊗_, 1e-12, abs}
-use Rattle.laws.specs.All.{All}
 use Rattle.laws.specs.Counts.{count-reverse}
 use Rattle.laws.specs.Edits.{erase, length-erase}
-use Rattle.models.specs.Problem.{Problem, of-distances, Stops}
+use Rattle.models.specs.Problem.{Problem}
 use Rattle.plan.specs.Plan.{Plan, Holds, Lent, split, flat, route, total, offset, saved}
 use Rattle.plan.specs.Routes.{number-erase, occurs-erase}
 use Rattle.plan.specs.Saved.{saved-lengths, saved-stops}
 use Rattle.plan.specs.Slices.{route-within, route-split, length-split, flat-split-all}
 use Rattle.local_search.specs.declared.rounds.Counts.{Counts}
-use Rattle.local_search.specs.Options.{Each, each-found, bind, then-some}
-use Rattle.local_search.specs.Planned.{Planned, planned-stops}
 use Rattle.local_search.specs.Route.{cost}
 use Rattle.local_search.specs.Rounds.{Tried}
 use Rattle.local_search.specs.Search.{Ends-with-0, but-last}
-use Rattle.local_search.proofs.ReadLaws.{cost-any}
 use Rattle.ejection_made.specs.Made.{stack}
-use Rattle.pool_turns.specs.declared.Emptied.{Emptied}
-use Rattle.pool_turns.specs.declared.Emptied.the-variants.{Failed, Done}
-use Rattle.route_attempt.specs.declared.Attempted.{Attempted}
-use Rattle.route_attempt.specs.declared.Attempted.the-variants.{Kept, Accepted}
-use Rattle.ejection_pool.specs.Pool.{Allowance, State, Turn, stop, more, turn, at-limit, run-pool, empty-into}
-use Rattle.route_attempt.specs.Attempt.{if-cheaper, attempt}
-use Rattle.ejection_pool.specs.Turns.{Then, turn-rule, pool-rule}
-use Rattle.ejection_pool.specs.Pooled.{Pooled, pooled-planned, pooled-more}
+use Rattle.pool_attempt.specs.declared.Attempted.{Attempted}
+use Rattle.pool_attempt.specs.declared.Attempted.the-variants.{Kept, Accepted}
+use Rattle.ejection_pool.specs.Pool.{Allowance, run-pool, empty-into}
+use Rattle.pool_attempt.specs.Attempt.{attempt}
 use Rattle.ejection_pool.specs.Running.{Running, state}
-use Rattle.pool_turns.specs.Ends.{said}
-use Rattle.route_attempt.specs.Attempting.{Attempting, Leaves, tried, judged}
+use Rattle.pool_attempt.specs.Judged.{tried, judged}
+use Rattle.route_attempt.specs.Attempting.{Attempting, Leaves}
 
 -- ---- the pool at the start
 
@@ -73,98 +62,6 @@ module _ (lengths stops : List ℕ) (r at : ℕ) (l : Lent lengths stops) (h : r
         ∙ ap reverse (front ∙ ap (λ (m : ℕ). take k (drop m stops)) e ∙ sym (route-split lengths stops r))
 
 pub ruleset pool-laws = (count-fits, route-in-stops, count-in-pool, pool-copied)
-
--- ---- the failures at the start
-
-front-ones : (n m : ℕ) → n ≤ m → take {A = ℕ} n (replicate m 1) ≡ replicate n 1
-front-ones zero m h = refl
-front-ones (suc n) zero h = absurd (not-suc-le-zero h)
-front-ones (suc n) (suc m) h = ap (λ (l : List ℕ). 1 ∷ l) (front-ones n m (le-of-suc-le-suc h))
-
-abbrev ones : ℕ → List ℕ
-ones n = take {A = ℕ} (n - 0) (replicate 256 1)
-
-module _ {p : Problem} {tape : List ℕ} {needed : Bool} {limit : ℕ} {ls s pool work : List ℕ} {cells : List Float} {start : ℕ} {counts : Counts}
-    (g : Running p tape needed limit ls s pool work (replicate (p .roads .size) 1) cells start counts) where
-  ones-are : replicate (p .roads .size) 1 ≡ ones (p .roads .size)
-  ones-are =
-      let n = p .roads .size in
-      let e : n - 0 ≡ n = omega arith in
-      sym (ap (λ (k : ℕ). take {A = ℕ} k (replicate 256 1)) e ∙ front-ones n 256 (g .admitted .fit .square .few))
-
-  pub ones-running : Running p tape needed limit ls s pool work (ones (p .roads .size)) cells start counts
-  ones-running = subst (λ (f : List ℕ). Running p tape needed limit ls s pool work f cells start counts) ones-are g
-
-  pub ones-emptied : (given : Allowance) (x : Tried) → x ≡ run-pool given p limit (state ls s pool start (ones (p .roads .size)) counts)
-      → x ≡ run-pool given p limit (state ls s pool start (replicate (p .roads .size) 1) counts)
-  ones-emptied given x e = e ∙ ap (λ (f : List ℕ). run-pool given p limit (state ls s pool start f counts)) (sym ones-are)
-
--- ---- the cost
-
-pub cheaper-is : (cost v before a : Float) → v ≡ cost → a ≡ abs before → lt v (before ⊖ 1e-12 ⊗ a) ≡ lt cost (before ⊖ 1e-12 ⊗ abs before)
-cheaper-is cost v before a e f = rw (e, f)
-
--- ---- what is left of the pool
-
--- where the pool is emptied, the plan is one over the places
-module _ (given : Allowance) (p : Problem) (n : ℕ) (few : n ≤ 256) where
-  pub pool-planned : (left : ℕ) (s : State) → Pooled p n left s → Each (Planned (p .roads .size)) (run-pool given p left s .plan)
-  unfolding at-limit
-  pool-planned left s h = pool-rule given p (λ left s. Pooled p n left s) O (λ s i. limit s i (s .pool)) step left s h
-    where
-      O : Tried → Type 0
-      O t = Each (Planned (p .roads .size)) (t .plan)
-
-      limit : (s : State) → Pooled p n zero s → (pool : List ℕ) → O (at-limit s pool)
-      limit s i [] = pooled-planned p n zero s few i
-      limit s i (c ∷ rest) = tt
-
-      go : (left : ℕ) (s : State) → Pooled p n (suc left) s → (t : Turn) → turn given p s (s .pool) ≡ t → Then (λ _. Unit) O t → Then (λ u. Pooled p n left u) O t
-      go left s i (stop t) e o = o
-      go left s i (more u) e o = pooled-more given p n left s u i e
-
-      step : (left : ℕ) (s : State) → Pooled p n (suc left) s → Then (λ u. Pooled p n left u) O (turn given p s (s .pool))
-      step left s i =
-          go left s i (turn given p s (s .pool)) refl
-          (turn-rule given p (Then (λ _. Unit) O) s (s .pool) (λ _. pooled-planned p n (suc left) s few i) (λ _ _ _ _. tt) (λ _ _ _ _ _. tt) (λ _ _ _ _ _ _ _. tt))
-
--- the plan that is left where the pool is emptied is one of stops
-module _ (given : Allowance) {p : Problem} {tape : List ℕ} {needed : Bool} {limit : ℕ} {ls s pool work failures : List ℕ} {cells : List Float} {start : ℕ} {counted : Counts}
-    (g : Running p tape needed limit ls s pool work failures cells start counted) where
-  pub done-stops : (plan : Plan) (counts : Counts) (x : Emptied) → said x plan ≡ run-pool given p limit (state ls s pool start failures counted) → x ≡ Done counts
-      → All (Stops (p .roads .size)) plan
-  done-stops plan counts x e f =
-      let t = run-pool given p limit (state ls s pool start failures counted) in
-      let d : t .plan ≡ some plan = ap (λ (y : Tried). y .plan) (sym e ∙ ap (λ (y : Emptied). said y plan) f) in
-      let few : length s ≤ 256 = omega (arith, g .few) in
-      planned-stops (p .roads .size) plan (each-found (Planned (p .roads .size)) (t .plan) d (pool-planned given p (length s) few limit (state ls s pool start failures counted) (g .pooled)))
-
--- the cost reads the distances alone
-pub cost-whole : (p : Problem) (plan : Plan) → cost (of-distances (p .roads .size) (p .roads .distances) (p .vehicle)) plan ≡ cost p plan
-cost-whole p plan =
-    let c = p .places in
-    cost-any (p .roads .size) (p .demand) (c .service) (c .ready) (c .due) (c .penalty) (c .flags) (p .roads .distances) (p .roads .times) (p .vehicle) plan _ refl
-
--- the test of the cost
-module _ (p : Problem) (before : Float) (t : Tried) (plan : Plan) (counts : Counts) (x : Emptied) (e : said x plan ≡ t) where
-  pub judged-failed : x ≡ Failed counts → tried (Kept counts) plan ≡ judged p before t
-  unfolding bind
-  judged-failed f = ap (λ (y : Emptied). judged p before (said y plan)) (sym f) ∙ ap (judged p before) e
-
-  module _ (f : x ≡ Done counts) (v : Bool) (c : v ≡ lt (cost (of-distances (p .roads .size) (p .roads .distances) (p .vehicle)) plan) (before ⊖ 1e-12 ⊗ abs before)) where
-    tested : v ≡ lt (cost p plan) (before ⊖ 1e-12 ⊗ abs before)
-    tested = c ∙ ap (λ (z : Float). lt z (before ⊖ 1e-12 ⊗ abs before)) (cost-whole p plan)
-
-    emptied : judged p before (said (Done counts) plan) ≡ judged p before t
-    emptied = ap (λ (y : Emptied). judged p before (said y plan)) (sym f) ∙ ap (judged p before) e
-
-    pub judged-cheaper : v ≡ true → tried (Accepted counts) plan ≡ judged p before t
-    unfolding bind if-cheaper then-some
-    judged-cheaper g = ap (λ (b : Bool). record { plan = then-some b plan; counts = counts }) (sym g ∙ tested) ∙ emptied
-
-    pub judged-dearer : v ≡ false → tried (Kept counts) plan ≡ judged p before t
-    unfolding bind if-cheaper then-some
-    judged-dearer g = ap (λ (b : Bool). record { plan = then-some b plan; counts = counts }) (sym g ∙ tested) ∙ emptied
 
 -- ---- the plan without route r
 

@@ -1,3 +1,3 @@
 -- What the functions' proofs lean on.
--- the pool at the start, the state that is left, the slices after it
+-- the pool at the start, the plan without the route, the slices after it
 pub mod AttemptLaws

@@ -1,5 +1,3 @@
--- The attempt at a route. A file uses only files above it in this list.
--- the attempt
-pub mod Attempt
--- an attempt as the code makes it
+-- The attempt at a route, as the code makes it.
+-- what it asks for and leaves
 pub mod Attempting

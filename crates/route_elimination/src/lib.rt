@@ -5,8 +5,8 @@ ghost use Rattle.models.specs.Problem.{problem};
 ghost use Rattle.plan.specs.Plan.{split};
 ghost use Rattle.local_search.specs.Search.{Answers, uncounted, left-with};
 ghost use Rattle.elimination_moves.specs.Eliminate.{eliminate-routes};
-ghost use Rattle.route_elimination.specs.Eliminating.{Eliminating};
-use crate::round::try_next;
+ghost use Rattle.elimination_round.specs.Eliminating.{Eliminating};
+use elimination_round::try_next;
 use evaluation::check::has_soft_windows;
 use local_search::feasible::constrained;
 use local_search::rounds::Next;
@@ -14,8 +14,6 @@ use local_search::route::gain_floor;
 use models::vehicle::Vehicle;
 use plan::drop_empty;
 use plan::order::Pick;
-
-pub mod round;
 
 // `eliminate_routes`: rounds of attempts, begun again from the shortest route as soon as one is accepted. How many routes are left.
 pub fn eliminate_routes(

@@ -20,7 +20,7 @@ use Rattle.local_search.specs.Reduced.{triangle, triangle-is}
 use Rattle.local_search.specs.Search.{Answers}
 use Rattle.local_search.proofs.SearchLaws.{Trying, trying-steps, trying-whole, trying-few, trying-planned}
 use Rattle.ejection_pool.specs.Pool.{Allowance}
-use Rattle.route_attempt.specs.Attempt.{attempt}
+use Rattle.pool_attempt.specs.Attempt.{attempt}
 use Rattle.route_minimization.specs.Minimize.{minimize-routes}
 use Rattle.route_attempt.specs.Attempting.{Attempting}
 

@@ -26,9 +26,9 @@ use Rattle.local_search.specs.Rounds.{Result, try-all, rounds, reduce}
 use Rattle.local_search.specs.RoundRules.{rounds-rule}
 use Rattle.local_search.specs.Reduced.{Better, round-has}
 use Rattle.ejection_pool.specs.Pool.{Allowance, empty-into}
-use Rattle.route_attempt.specs.Attempt.{if-cheaper, attempt}
+use Rattle.pool_attempt.specs.Attempt.{if-cheaper, attempt}
 use Rattle.route_minimization.specs.Minimize.{minimize-routes}
-use Rattle.route_minimization.specs.Minimized.{attempt-better}
+use Rattle.minimization_round.specs.Attempted.{attempt-better}
 
 abbrev Full : List ℕ → Type 0
 Full r = non-empty r ≡ true

@@ -1,7 +1,7 @@
 -- Route minimisation with an ejection pool. A file uses only files above it in this list.
 -- the search
 pub mod Minimize
--- what an attempt and the search keep
+-- what the search keeps
 pub mod Minimized
 -- what the search asks for
 pub mod Minimizing

@@ -7,21 +7,19 @@ ghost use Rattle.evaluation.specs.Check.{route-checks-needed};
 ghost use Rattle.plan.specs.Plan.{split};
 ghost use Rattle.local_search.specs.Rounds.{reduce};
 ghost use Rattle.local_search.specs.Search.{Answers};
-ghost use Rattle.route_attempt.specs.Attempt.{attempt};
+ghost use Rattle.pool_attempt.specs.Attempt.{attempt};
 ghost use Rattle.route_minimization.specs.Minimize.{minimize-routes};
 ghost use Rattle.ejection_pool.specs.Running.{allowance};
 ghost use Rattle.route_minimization.specs.Minimizing.{Searching};
-use crate::round::begin;
-use crate::round::try_next;
 use evaluation::check::has_soft_windows;
 use local_search::feasible::constrained;
 use local_search::rounds::Counts;
 use local_search::rounds::Next;
 use local_search::rounds::Reduction;
+use minimization_round::begin;
+use minimization_round::try_next;
 use models::vehicle::Vehicle;
 use plan::order::Pick;
-
-pub mod round;
 
 // Rounds of attempts, begun again from the shortest route as soon as one is accepted.
 fn search(

@@ -9,9 +9,9 @@ use Rattle.plan.specs.Order.{following}
 use Rattle.ejection_pool.specs.Running.{allowance}
 use Rattle.local_search.specs.Route.{cost}
 use Rattle.local_search.proofs.SearchLaws.{Rounding, Trying, rounding-start, round-lent, round-same, trying-start, front-length, front-in, trying-routes, trying-routes-few, back-long, at-end, after-kept-less, after-kept, after-accepted-less, after-accepted}
-use Rattle.route_attempt.specs.Attempt.{attempt}
-use Rattle.route_minimization.specs.Minimized.{attempt-reduces}
-use Rattle.route_minimization.proofs.NextLaws.{round-cost}
+use Rattle.pool_attempt.specs.Attempt.{attempt}
+use Rattle.minimization_round.specs.Attempted.{attempt-reduces}
+use Rattle.minimization_round.proofs.NextLaws.{round-cost}
 use Rattle.route_minimization.proofs.MinimizeLaws.{trying-attempt}
 use Rattle.route_minimization.proofs.search.Statement.{statement}
 use Rattle.route_minimization.proofs.search.Tie as tie

@@ -1,0 +1,3 @@
+-- An attempt of a round.
+-- what it keeps
+pub mod Attempted

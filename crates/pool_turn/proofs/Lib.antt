@@ -1,0 +1,3 @@
+-- What the function's proof leans on.
+-- a turn of the pool
+pub mod TurnLaws

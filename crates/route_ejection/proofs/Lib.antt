@@ -1,0 +1,3 @@
+-- What the functions' proofs lean on.
+-- who leaves a route
+pub mod LeaveLaws
