@@ -19,7 +19,7 @@ use Rattle.local_search.specs.Route.{gain-floor}
 use Rattle.local_search.specs.Feasible.{demand-at}
 use Rattle.local_search.specs.declared.rounds.Counts.{Counts}
 use Rattle.local_search.specs.Rounds.{Tried, reduce}
-use Rattle.route_worth.specs.Worth.{worth}
+use Rattle.reinsertion_worth.specs.Worth.{worth}
 use Rattle.reinsertion_candidates.specs.Candidates.{candidates, by-cost, first-passing}
 
 -- the other routes so far, and what was added to their worth

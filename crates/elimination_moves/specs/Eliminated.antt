@@ -27,7 +27,7 @@ use Rattle.local_search.specs.RouteLaws.{has-room-fits}
 use Rattle.local_search.specs.declared.rounds.Counts.{Counts}
 use Rattle.local_search.specs.Rounds.{reduce}
 use Rattle.local_search.specs.Reduced.{Better, Reduces, reduces-fewer, triangle, Ended, reduce-ended}
-use Rattle.route_worth.specs.Worth.{worth}
+use Rattle.reinsertion_worth.specs.Worth.{worth}
 use Rattle.reinsertion_candidates.specs.Candidates.{positions, candidates-in, candidates, nowhere, trial, first-passing}
 use Rattle.elimination_moves.specs.Eliminate.{Moved, move-to, move-stop, moving, move-all, if-gained, without-route, attempt, eliminate-routes}
 

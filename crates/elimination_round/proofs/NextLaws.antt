@@ -16,7 +16,7 @@ use Rattle.local_search.specs.Feasible.{constrained}
 use Rattle.local_search.specs.Rounds.{Tried, try-each}
 use Rattle.local_search.specs.Search.{Ends-with-0, but-last, Refused, Taken, uncounted}
 use Rattle.local_search.proofs.NextLaws.{pick-there, next-kept, next-refused, next-accepted, next-taken}
-use Rattle.route_worth.specs.Worth.{soft}
+use Rattle.reinsertion_worth.specs.Worth.{soft}
 use Rattle.elimination_moves.specs.Eliminate.{without-route, attempt}
 use Rattle.emptied_route.specs.Attempts.{Attempted, fewer, Left}
 use Rattle.elimination_round.specs.Eliminating.{Eliminating}

@@ -8,7 +8,7 @@ ghost use Rattle.local_search.specs.Feasible.{constrained};
 ghost use Rattle.local_search.specs.Route.{gain-floor};
 ghost use Rattle.local_search.specs.Rounds.{try-each};
 ghost use Rattle.local_search.specs.Search.{but-last, tried-next, Next-leaves, uncounted};
-ghost use Rattle.route_worth.specs.Worth.{soft as soft-in};
+ghost use Rattle.reinsertion_worth.specs.Worth.{soft as soft-in};
 ghost use Rattle.elimination_moves.specs.Eliminate.{attempt};
 ghost use Rattle.elimination_round.specs.Eliminating.{Eliminating};
 use elimination_attempt::without_route;

@@ -12,7 +12,7 @@ use Rattle.plan.specs.Plan.{Plan, Lent, split, route, total}
 use Rattle.local_search.specs.Options.{bind}
 use Rattle.local_search.specs.Feasible.{constrained}
 use Rattle.local_search.specs.Planned.{Planned}
-use Rattle.route_worth.specs.Worth.{soft}
+use Rattle.reinsertion_worth.specs.Worth.{soft}
 use Rattle.elimination_moves.specs.Eliminate.{moving, move-all, if-gained}
 
 -- route r is to go from a plan

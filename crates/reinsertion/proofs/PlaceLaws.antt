@@ -21,7 +21,7 @@ use Rattle.local_search.specs.Route.{chosen}
 use Rattle.local_search.specs.Feasible.{has-room}
 use Rattle.local_search.proofs.ReadLaws.{room-any}
 use Rattle.reinsertion_candidates.specs.declared.Move.{Move}
-use Rattle.route_worth.specs.Worth.{worth, insertion-worth, current}
+use Rattle.reinsertion_worth.specs.Worth.{worth, insertion-worth, current}
 use Rattle.reinsertion_candidates.specs.Place.{counts, comes-first, settles, look-at, look-through}
 use Rattle.reinsertion_candidates.specs.Asked.{Looked}
 

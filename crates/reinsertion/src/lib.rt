@@ -8,7 +8,7 @@ ghost use Rattle.laws.specs.Loops.{loop};
 ghost use Rattle.models.specs.Problem.{problem, Stops};
 ghost use Rattle.plan.specs.Plan.{split};
 ghost use Rattle.local_search.specs.Route.{chosen};
-ghost use Rattle.route_worth.specs.Worth.{current};
+ghost use Rattle.reinsertion_worth.specs.Worth.{current};
 ghost use Rattle.reinsertion_candidates.specs.Candidates.{candidates, by-cost, first-passing};
 ghost use Rattle.reinsertion_candidates.specs.Place.{look-at, look-through, look-over};
 ghost use Rattle.reinsertion_candidates.specs.Asked.{Asked, Looked, Room};
@@ -19,8 +19,8 @@ use models::vehicle::Vehicle;
 use reinsertion_candidates::Move;
 use reinsertion_candidates::leads;
 use reinsertion_candidates::settles;
-use route_worth::current;
-use route_worth::insertion_worth;
+use reinsertion_worth::current;
+use reinsertion_worth::insertion_worth;
 
 // One position of route k, which has room for the stop: the better of what it gives and the best so far.
 fn look_at(

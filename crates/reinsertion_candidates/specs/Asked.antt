@@ -11,7 +11,7 @@ use Rattle.models.specs.Problem.{Problem, problem, depot, Fit, Stops, Admitted}
 use Rattle.plan.specs.Plan.{Lent, split, total}
 use Rattle.local_search.specs.Feasible.{constrained}
 use Rattle.reinsertion_candidates.specs.declared.Move.{Move}
-use Rattle.route_worth.specs.Worth.{soft}
+use Rattle.reinsertion_worth.specs.Worth.{soft}
 
 -- a stop that is to be moved, of a problem that a search is given
 pub record Asked (p : Problem) (m : Move) : Type 0 where

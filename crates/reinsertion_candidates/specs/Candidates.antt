@@ -13,7 +13,7 @@ use Rattle.models.specs.Problem.{Problem}
 use Rattle.plan.specs.Plan.{Plan, route}
 use Rattle.local_search.specs.declared.route.Insertion.{Insertion}
 use Rattle.local_search.specs.Feasible.{has-room, checked}
-use Rattle.route_worth.specs.Worth.{soft, insertion-worth}
+use Rattle.reinsertion_worth.specs.Worth.{soft, insertion-worth}
 
 -- the candidates for c in route k: every position, but for costs that are not finite where a window is soft
 unfoldable pub positions : Problem → ℕ → ℕ → List ℕ → List Insertion

@@ -17,7 +17,7 @@ use Rattle.models.specs.Problem.{Problem}
 use Rattle.plan.specs.Plan.{Plan, route}
 use Rattle.local_search.specs.declared.route.Insertion.{Insertion}
 use Rattle.local_search.specs.Feasible.{has-room, checked}
-use Rattle.route_worth.specs.Worth.{soft, insertion-worth}
+use Rattle.reinsertion_worth.specs.Worth.{soft, insertion-worth}
 use Rattle.reinsertion_candidates.specs.Candidates.{positions, candidates-in, candidates, nowhere, by-cost, trial, first-passing}
 
 -- ---- the pass

@@ -30,7 +30,7 @@ use Rattle.elimination_moves.specs.Eliminate.{Moved, move-stop, move-all}
 use Rattle.reinsertion_candidates.specs.Asked.{Asked, Room}
 use Rattle.elimination_moves.specs.Largest.{larger, first-largest, in-order, in-order-more}
 use Rattle.stop_moves.specs.Moves.{so-far, held-by, move-on, move-on-more, move-on-none, move-on-end, Waiting, Grown, Kept, place-inside, move-nowhere, move-there}
-use Rattle.route_worth.proofs.WorthLaws.{trial-stops}
+use Rattle.reinsertion_worth.proofs.WorthLaws.{trial-stops}
 
 -- ---- one stop
 

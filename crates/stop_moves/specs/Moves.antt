@@ -18,7 +18,7 @@ use Rattle.local_search.specs.declared.route.Insertion.{Insertion}
 use Rattle.local_search.specs.Feasible.{constrained, has-room}
 use Rattle.stop_moves.specs.declared.Sum.{Sum}
 use Rattle.stop_moves.specs.declared.Sum.the-variants.{Nothing, At}
-use Rattle.route_worth.specs.Worth.{soft, insertion-worth}
+use Rattle.reinsertion_worth.specs.Worth.{soft, insertion-worth}
 use Rattle.reinsertion_candidates.specs.Candidates.{candidates, by-cost, first-passing}
 use Rattle.elimination_moves.specs.Eliminate.{Moved, move-to, move-stop}
 use Rattle.reinsertion_candidates.specs.Place.{counts, comes-first, settles, look-at, look-through, look-over, unless-cut, place-is}

@@ -10,7 +10,7 @@ ghost use Rattle.models.specs.RouteLimits.{limits-of};
 ghost use Rattle.models.specs.Problem.{matrix, problem, Fit, Stops};
 ghost use Rattle.evaluation.specs.Check.{has-soft-windows};
 ghost use Rattle.evaluation.specs.Eval.{effective-cost};
-ghost use Rattle.route_worth.specs.Worth.{worth, insertion-worth, current};
+ghost use Rattle.reinsertion_worth.specs.Worth.{worth, insertion-worth, current};
 use cells::copy_part;
 use cells::insert_at;
 use evaluation::eval::effective_cost;

@@ -18,7 +18,7 @@ use Rattle.models.specs.Problem.{DistanceMatrix, Problem, Stops, depot}
 use Rattle.evaluation.specs.Eval.{effective-cost}
 use Rattle.local_search.specs.Route.{route-distance, insertion-cost}
 use Rattle.local_search.proofs.ReadLaws.{distance-any, insertion-any}
-use Rattle.route_worth.specs.Worth.{soft, worth, insertion-worth, current}
+use Rattle.reinsertion_worth.specs.Worth.{soft, worth, insertion-worth, current}
 
 -- ---- a route, with a soft window and without one
 

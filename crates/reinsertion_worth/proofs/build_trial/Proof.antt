@@ -1,8 +1,8 @@
 -- `worth::build_trial` meets its contract.
 use borrow.Author.Needs.{needs}
-use Rattle.route_worth.proofs.WorthLaws.{trial-built}
-use Rattle.route_worth.proofs.build_trial.Statement.{statement}
-use Rattle.route_worth.proofs.build_trial.Tie as tie
+use Rattle.reinsertion_worth.proofs.WorthLaws.{trial-built}
+use Rattle.reinsertion_worth.proofs.build_trial.Statement.{statement}
+use Rattle.reinsertion_worth.proofs.build_trial.Tie as tie
 
 copy-part-requires : tie.Need-copy-part-requires
 copy-part-requires c κs = search needs

@@ -1,8 +1,8 @@
 -- `worth::worth` meets its contract.
 use borrow.Author.Needs.{needs}
-use Rattle.route_worth.proofs.WorthLaws.{worth-laws}
-use Rattle.route_worth.proofs.worth.Statement.{statement}
-use Rattle.route_worth.proofs.worth.Tie as tie
+use Rattle.reinsertion_worth.proofs.WorthLaws.{worth-laws}
+use Rattle.reinsertion_worth.proofs.worth.Statement.{statement}
+use Rattle.reinsertion_worth.proofs.worth.Tie as tie
 
 of-requires : tie.Need-of-requires
 of-requires c κs = search needs

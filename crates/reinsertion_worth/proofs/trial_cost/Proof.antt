@@ -1,8 +1,8 @@
 -- `worth::trial_cost` meets its contract.
 use borrow.Author.Needs.{needs}
-use Rattle.route_worth.proofs.WorthLaws.{trial-part, trial-read}
-use Rattle.route_worth.proofs.trial_cost.Statement.{statement}
-use Rattle.route_worth.proofs.trial_cost.Tie as tie
+use Rattle.reinsertion_worth.proofs.WorthLaws.{trial-part, trial-read}
+use Rattle.reinsertion_worth.proofs.trial_cost.Statement.{statement}
+use Rattle.reinsertion_worth.proofs.trial_cost.Tie as tie
 
 slice-aggregate-build-trial : tie.Need-slice-aggregate-build-trial
 slice-aggregate-build-trial c = search needs

@@ -1,8 +1,8 @@
 -- `worth::current` meets its contract.
 use borrow.Author.Needs.{needs}
-use Rattle.route_worth.proofs.WorthLaws.{worth-laws}
-use Rattle.route_worth.proofs.current.Statement.{statement}
-use Rattle.route_worth.proofs.current.Tie as tie
+use Rattle.reinsertion_worth.proofs.WorthLaws.{worth-laws}
+use Rattle.reinsertion_worth.proofs.current.Statement.{statement}
+use Rattle.reinsertion_worth.proofs.current.Tie as tie
 
 worth-requires : tie.Need-worth-requires
 worth-requires c κs = search needs

@@ -1,8 +1,8 @@
 -- `worth::insertion_worth` meets its contract.
 use borrow.Author.Needs.{needs}
-use Rattle.route_worth.proofs.WorthLaws.{insertion-laws}
-use Rattle.route_worth.proofs.insertion_worth.Statement.{statement}
-use Rattle.route_worth.proofs.insertion_worth.Tie as tie
+use Rattle.reinsertion_worth.proofs.WorthLaws.{insertion-laws}
+use Rattle.reinsertion_worth.proofs.insertion_worth.Statement.{statement}
+use Rattle.reinsertion_worth.proofs.insertion_worth.Tie as tie
 
 trial-cost-requires : tie.Need-trial-cost-requires
 trial-cost-requires c κs = search needs
