@@ -20,11 +20,11 @@ use elimination_moves::moves::Sum;
 use elimination_moves::moves::move_all;
 use floats::is_finite;
 use models::vehicle::Vehicle;
-use plan::erase_route;
 use plan::offset;
-use plan::restore;
-use plan::save;
 use reinsertion::worth::worth;
+use route_removal::erase_route;
+use route_removal::restore;
+use route_removal::save;
 
 // What is saved where route r goes: its worth and its fixed cost.
 fn saved_by(

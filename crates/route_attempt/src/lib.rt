@@ -21,12 +21,12 @@ use floats::abs;
 use local_search::rounds::Counts;
 use local_search::route::plan_cost;
 use models::vehicle::Vehicle;
-use plan::erase_route;
 use plan::offset;
-use plan::restore;
-use plan::save;
 use pool_turns::Emptied;
 use pool_turns::empty_into;
+use route_removal::erase_route;
+use route_removal::restore;
+use route_removal::save;
 
 // How an attempt ends: the plan is kept as it was, or the one without the route is accepted; with the counts of the call so far.
 pub enum Attempted {

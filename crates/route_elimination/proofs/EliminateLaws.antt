@@ -7,10 +7,10 @@ use mathlib.Core.Option.{Option, none, some}
 use native.Mathlib.Omega.{arith}
 use lib.ListN.{length, take, drop}
 use Rattle.models.specs.Problem.{Problem, Admitted}
-use Rattle.plan.specs.declared.order.Pick.{Pick}
-use Rattle.plan.specs.declared.order.Pick.the-variants.{At}
+use Rattle.route_order.specs.declared.Pick.{Pick}
+use Rattle.route_order.specs.declared.Pick.the-variants.{At}
 use Rattle.plan.specs.Plan.{Plan, split, total}
-use Rattle.plan.specs.Order.{next-pick, following}
+use Rattle.route_order.specs.Order.{next-pick, following}
 use Rattle.local_search.specs.Options.{then-some}
 use Rattle.local_search.specs.Feasible.{constrained}
 use Rattle.local_search.specs.declared.rounds.Counts.{Counts}

@@ -12,8 +12,8 @@ use local_search::feasible::constrained;
 use local_search::rounds::Next;
 use local_search::route::gain_floor;
 use models::vehicle::Vehicle;
-use plan::drop_empty;
-use plan::order::Pick;
+use route_order::Pick;
+use route_removal::drop_empty;
 
 pub mod round;
 

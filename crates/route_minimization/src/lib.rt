@@ -19,7 +19,7 @@ use local_search::rounds::Counts;
 use local_search::rounds::Next;
 use local_search::rounds::Reduction;
 use models::vehicle::Vehicle;
-use plan::order::Pick;
+use route_order::Pick;
 
 pub mod round;
 

@@ -4,7 +4,7 @@ ghost use Prim.Native.Nat.{_*_, _<_, _≤_};
 ghost use lib.ListN.{length, take};
 ghost use Rattle.models.specs.Problem.{problem, of-distances};
 ghost use Rattle.plan.specs.Plan.{Lent, split, padded, drop-zero};
-ghost use Rattle.plan.specs.Order.{following};
+ghost use Rattle.route_order.specs.Order.{following};
 ghost use Rattle.local_search.specs.Planned.{Planned};
 ghost use Rattle.local_search.specs.Route.{cost};
 ghost use Rattle.local_search.specs.Rounds.{try-each};
@@ -16,11 +16,11 @@ use local_search::rounds::Counts;
 use local_search::rounds::Next;
 use local_search::route::plan_cost;
 use models::vehicle::Vehicle;
-use plan::drop_empty;
-use plan::order::Pick;
-use plan::order::next_pick;
 use route_attempt::Attempted;
 use route_attempt::attempt;
+use route_order::Pick;
+use route_order::next_pick;
+use route_removal::drop_empty;
 
 // What a round starts with: how many routes there are, and what they cost.
 pub struct Round {

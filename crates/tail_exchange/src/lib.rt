@@ -15,8 +15,8 @@ use cells::copy_part;
 use local_search::feasible::feasible;
 use local_search::feasible::within_capacity;
 use models::vehicle::Vehicle;
-use plan::exchange_tails;
 use plan::offset;
+use route_exchange::exchange_tails;
 
 // The front of route a up to i goes to the first work cells, and behind it the tail of route b from j. Returns how many stops these are.
 fn join(
