@@ -15,7 +15,7 @@ use Rattle.local_search.specs.Route.{insertion-cost}
 use Rattle.local_search.specs.Feasible.{has-room}
 use Rattle.local_search.proofs.ReadLaws.{insertion-any, room-any}
 use Rattle.quick_test.specs.Quick.{Times, times as times-along}
-use Rattle.quick_test.specs.Prepared.{held, Prepared, prepared-missed, prepared-read, prepared-any}
+use Rattle.route_times.specs.Prepared.{held, Prepared, prepared-missed, prepared-read, prepared-any}
 use Rattle.insertion.specs.Pass.{may-pass}
 use Rattle.ejection.specs.declared.Ejection.{Ejection}
 use Rattle.ejection_positions.specs.declared.Out.{Out}

@@ -14,7 +14,7 @@ use Rattle.local_search.specs.declared.route.Insertion.{Insertion}
 use Rattle.local_search.specs.Feasible.{has-room}
 use Rattle.local_search.proofs.ReadLaws.{room-any}
 use Rattle.quick_test.specs.Quick.{Times, times as times-along}
-use Rattle.quick_test.specs.Prepared.{held, Prepared, prepared-missed, prepared-read, prepared-any}
+use Rattle.route_times.specs.Prepared.{held, Prepared, prepared-missed, prepared-read, prepared-any}
 use Rattle.insertion.specs.Cheapest.{try-position, try-positions, try-route}
 use Rattle.insertion.specs.Pass.{may-pass-any, pass-position, pass-position-room, try-position-untimed}
 

@@ -13,7 +13,7 @@ ghost use Rattle.evaluation.specs.Check.{route-checks-needed};
 ghost use Rattle.plan.specs.Plan.{Lent, split};
 ghost use Rattle.local_search.specs.Route.{chosen};
 ghost use Rattle.quick_test.specs.Quick.{may-fit};
-ghost use Rattle.quick_test.specs.Prepared.{held};
+ghost use Rattle.route_times.specs.Prepared.{held};
 ghost use Rattle.insertion.specs.Cheapest.{cheaper, try-route, cheapest};
 ghost use Rattle.insertion.specs.Pass.{may-pass, pass-position};
 use local_search::feasible::has_room;
@@ -23,7 +23,7 @@ use local_search::route::Insertion;
 use local_search::route::insertion_cost;
 use models::vehicle::Vehicle;
 use quick_test::may_fit;
-use quick_test::prepare;
+use route_times::prepare;
 
 // The quick test by the departures and latest arrivals in the work cells.
 fn quick(
@@ -66,7 +66,7 @@ fn quick(
 }
 
 // Whether c may go in at pos of a route that has room for it: the quick test and then the check of the trial route, where they are
-// needed. `quick_test::prepare` fills the work cells.
+// needed. `route_times::prepare` fills the work cells.
 pub fn may_pass(
     route: &[u16],
     cells: &[f64],

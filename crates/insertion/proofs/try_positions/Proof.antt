@@ -6,7 +6,7 @@ use borrow.Author.Needs.{needs}
 use native.Mathlib.Omega.{arith}
 use Rattle.models.specs.Problem.{problem}
 use Rattle.local_search.specs.Route.{chosen}
-use Rattle.quick_test.specs.Prepared.{held}
+use Rattle.route_times.specs.Prepared.{held}
 use Rattle.insertion.specs.Pass.{pass-position}
 use Rattle.insertion.proofs.AlongLaws.{Along, along-more, along-laws}
 use Rattle.insertion.proofs.try_positions.Statement.{statement}

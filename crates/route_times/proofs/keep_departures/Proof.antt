@@ -1,8 +1,8 @@
 -- `keep_departures` meets its contract.
 use borrow.Author.Needs.{needs}
-use Rattle.quick_test.proofs.PrepareLaws.{part-laws}
-use Rattle.quick_test.proofs.keep_departures.Statement.{statement}
-use Rattle.quick_test.proofs.keep_departures.Tie as tie
+use Rattle.route_times.proofs.PrepareLaws.{part-laws}
+use Rattle.route_times.proofs.keep_departures.Statement.{statement}
+use Rattle.route_times.proofs.keep_departures.Tie as tie
 
 sub-departures : tie.Need-sub-departures
 sub-departures c = search needs

@@ -1,9 +1,9 @@
 -- `keep_times` meets its contract.
 use borrow.Author.Needs.{needs}
 use native.Mathlib.Omega.{arith}
-use Rattle.quick_test.proofs.PrepareLaws.{times-laws}
-use Rattle.quick_test.proofs.keep_times.Statement.{statement}
-use Rattle.quick_test.proofs.keep_times.Tie as tie
+use Rattle.route_times.proofs.PrepareLaws.{times-laws}
+use Rattle.route_times.proofs.keep_times.Statement.{statement}
+use Rattle.route_times.proofs.keep_times.Tie as tie
 
 keep-departures-requires : tie.Need-keep-departures-requires
 keep-departures-requires c κs = search needs

@@ -3,46 +3,18 @@ use Prim.Native.Nat.{ℕ, suc, _-_, _*_, _^_, _<_, _≤_}
 use native.Mathlib.Nat.{le-refl}
 use native.Mathlib.Omega.{arith}
 use mathlib.Core.Path.{_≡_, refl, sym, ap, _∙_}
-use mathlib.Core.Bool.{true, false}
 use mathlib.Core.List.{List, _∷_, _++_, append-nil}
 use lib.ListN.{length, getD, take, drop, set, length-set}
 use lib.Seq.{drop-cons, drop-length, take-suc, take-set-lt, take-set-le, drop-set-lt, append-snoc, set-at, length-take-le}
-use lib.Ieee.{Float, nan, neg, lt}
+use lib.Ieee.{Float, nan}
 use mir.Syntax.{w64}
 use mir.Val.{Fits}
 use borrow.Author.Needs.{scaled-fits}
-use Rattle.floats.specs.Binary64.{_⊖_, +∞, min}
-use Rattle.models.specs.declared.customer.Window.{Window}
-use Rattle.models.specs.declared.customer.Window.the-variants.{None as NoWindow}
-use Rattle.models.specs.declared.customer.Customer.{Customer}
+use Rattle.floats.specs.Binary64.{+∞}
 use Rattle.models.specs.Customer.{Customers, customer-at}
 use Rattle.models.specs.Problem.{DistanceMatrix, Fit, Stops}
-use Rattle.distance.specs.Matrix.{travel-time}
 use Rattle.break_clock.proofs.StopLaws.{stop-laws}
-use Rattle.quick_test.specs.Quick.{earliest-start, latest-start, latest-arrival, latest-arrivals}
-use Rattle.quick_test.specs.Parts.{latest-in}
-
--- ---- one stop
-
-pub earliest-none : (window : Window) (top : Float) → window ≡ NoWindow → top ≡ +∞ → neg top ≡ earliest-start window
-unfolding neg
-earliest-none window top e et = rw (e, et)
-
-module _ (start-by : Float) (window : Window) (earliest : Float) (e : earliest ≡ earliest-start window) where
-  pub latest-never : (top : Float) → lt start-by earliest ≡ true → top ≡ +∞ → neg top ≡ latest-in start-by window
-  unfolding latest-in neg
-  latest-never top h et = rw (← e, h, et)
-
-  pub latest-some : (latest v : Float) → lt start-by earliest ≡ false → latest ≡ latest-start window → v ≡ min latest start-by → v ≡ latest-in start-by window
-  unfolding latest-in
-  latest-some latest v h el ev = rw (← e, h, ← el) ev
-
-pub ruleset latest-in-laws = (latest-never, latest-some)
-
-pub latest-is : (m : DistanceMatrix) (customer cu : Customer) (c next : ℕ) (by travel v : Float) → travel ≡ travel-time m c next → cu ≡ customer
-    → v ≡ latest-in (by ⊖ travel ⊖ cu .«service_duration») (cu .«time_window») → v ≡ latest-arrival m customer c next by
-unfolding latest-arrival latest-in
-latest-is m customer cu c next by travel v et ec ev = rw (← et, ← ec) ev
+use Rattle.quick_test.specs.Quick.{latest-arrival, latest-arrivals}
 
 -- ---- the walk from the last stop to the first
 

@@ -4,7 +4,6 @@ use native.Mathlib.Nat.{le-antisymm}
 use native.Mathlib.Numerals.{add-one}
 use native.Mathlib.Omega.{arith}
 use mathlib.Core.Path.{_≡_, refl, sym, ap, _∙_}
-use mathlib.Core.Bool.{true, false}
 use mathlib.Core.List.{List, [], _∷_, _++_, append-assoc, append-nil}
 use mathlib.Core.Option.{Option, none, some}
 use lib.ListN.{length, getD, take, drop, set, length-set, drop-of-length-le}
@@ -13,43 +12,14 @@ use lib.Ieee.{Float}
 use mir.Syntax.{w64}
 use mir.Val.{Fits}
 use borrow.Author.Needs.{scaled-fits}
-use Rattle.floats.specs.Binary64.{_⊕_, 0f}
-use Rattle.models.specs.declared.customer.TimeWindow.{TimeWindow}
-use Rattle.models.specs.declared.customer.Window.the-variants.{None as NoWindow, Is as WindowIs}
-use Rattle.models.specs.declared.customer.Customer.{Customer}
-use Rattle.models.specs.TimeWindow.{waiting-time, is-violated}
-use Rattle.models.specs.Customer.{Customers, customer-at}
+use Rattle.floats.specs.Binary64.{0f}
+use Rattle.models.specs.Customer.{Customers}
 use Rattle.models.specs.Problem.{DistanceMatrix, Fit, Stops}
-use Rattle.distance.specs.Matrix.{travel-time}
 use Rattle.evaluation.specs.declared.check.Left.{Left}
 use Rattle.evaluation.specs.declared.check.Left.the-variants.{Missed, At as LeftAt}
 use Rattle.break_clock.proofs.StopLaws.{stop-laws}
-use Rattle.quick_test.specs.Quick.{served-in, served-at, then-on, departures-from, departures}
+use Rattle.quick_test.specs.Quick.{then-on, departures-from, departures}
 use Rattle.quick_test.specs.Parts.{leave}
-
--- ---- one stop: no window; its window closed; in time
-
-module _ (arrival : Float) (c : Customer) where
-  pub served-none : c .«time_window» ≡ NoWindow → LeftAt (arrival ⊕ c .«service_duration») ≡ served-at arrival c
-  unfolding served-at
-  served-none e = sym (ap (served-in arrival c) e)
-
-  module _ (w : TimeWindow) (e : c .«time_window» ≡ WindowIs w) where
-    pub served-missed : is-violated w arrival ≡ true → Missed ≡ served-at arrival c
-    unfolding served-at
-    served-missed t = rw (e, t)
-
-    pub served-in-time : (wait : Float) → is-violated w arrival ≡ false → wait ≡ waiting-time w arrival
-        → LeftAt (arrival ⊕ wait ⊕ c .«service_duration») ≡ served-at arrival c
-    unfolding served-at
-    served-in-time wait f ew = rw (e, f, ew)
-
-pub ruleset served-laws = (served-none, served-missed, served-in-time)
-
-pub leave-is : (cs : Customers) (m : DistanceMatrix) (time : Float) (prev c : ℕ) (travel : Float) (cu : Customer) (s : Left)
-    → travel ≡ travel-time m prev c → cu ≡ customer-at cs c → s ≡ served-at (time ⊕ travel) cu → s ≡ leave cs m time prev c
-unfolding leave
-leave-is cs m time prev c travel cu s et ec es = rw (← et, ← ec) es
 
 -- ---- the walk over the stops: those that are left already, then the others
 

@@ -1,8 +1,8 @@
 -- `prepare` meets its contract.
 use borrow.Author.Needs.{needs}
-use Rattle.quick_test.proofs.PrepareLaws.{prepared-laws}
-use Rattle.quick_test.proofs.prepare.Statement.{statement}
-use Rattle.quick_test.proofs.prepare.Tie as tie
+use Rattle.route_times.proofs.PrepareLaws.{prepared-laws}
+use Rattle.route_times.proofs.prepare.Statement.{statement}
+use Rattle.route_times.proofs.prepare.Tie as tie
 
 keep-times-requires : tie.Need-keep-times-requires
 keep-times-requires c κs = search needs

@@ -1,8 +1,8 @@
 -- `keep_latest` meets its contract.
 use borrow.Author.Needs.{needs}
-use Rattle.quick_test.proofs.PrepareLaws.{part-laws}
-use Rattle.quick_test.proofs.keep_latest.Statement.{statement}
-use Rattle.quick_test.proofs.keep_latest.Tie as tie
+use Rattle.route_times.proofs.PrepareLaws.{part-laws}
+use Rattle.route_times.proofs.keep_latest.Statement.{statement}
+use Rattle.route_times.proofs.keep_latest.Tie as tie
 
 sub-latest-arrivals : tie.Need-sub-latest-arrivals
 sub-latest-arrivals c = search needs
