@@ -1,4 +1,4 @@
--- Laws of specs/Quick on departures, each from the facts that the code has where it needs it. Assumes nothing.
+-- Laws of the definitions of `quick_test` (specs/Quick) on departures, each from the facts that the code has where it needs it. Assumes nothing.
 use Prim.Native.Nat.{ℕ, _+_, _*_, _^_, _<_, _≤_}
 use native.Mathlib.Nat.{le-antisymm}
 use native.Mathlib.Numerals.{add-one}

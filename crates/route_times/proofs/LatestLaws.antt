@@ -1,4 +1,4 @@
--- Laws of specs/Quick on latest arrivals, each from the facts that the code has where it needs it. Assumes nothing.
+-- Laws of the definitions of `quick_test` (specs/Quick) on latest arrivals, each from the facts that the code has where it needs it. Assumes nothing.
 use Prim.Native.Nat.{ℕ, suc, _-_, _*_, _^_, _<_, _≤_}
 use native.Mathlib.Nat.{le-refl}
 use native.Mathlib.Omega.{arith}

@@ -2,9 +2,9 @@
 use borrow.Author.Needs.{needs}
 use native.Mathlib.Omega.{arith}
 use Rattle.local_search.proofs.FeasibleLaws.{demands-own, stops-own, place-own}
-use Rattle.insertion.proofs.RouteLaws.{route-laws}
-use Rattle.insertion.proofs.try_route.Statement.{statement}
-use Rattle.insertion.proofs.try_route.Tie as tie
+use Rattle.cheapest_insertion.proofs.RouteLaws.{route-laws}
+use Rattle.cheapest_insertion.proofs.try_route.Statement.{statement}
+use Rattle.cheapest_insertion.proofs.try_route.Tie as tie
 
 has-room-requires : tie.Need-has-room-requires
 has-room-requires c κs =

@@ -4,9 +4,9 @@ use lib.ListN.{length}
 use borrow.Author.Needs.{needs}
 use Rattle.models.specs.Problem.{problem}
 use Rattle.local_search.proofs.VisitLaws.{part-end, part-stops}
-use Rattle.insertion.proofs.PlanLaws.{Seeking, seeking-laws}
-use Rattle.insertion.proofs.cheapest.Statement.{statement}
-use Rattle.insertion.proofs.cheapest.Tie as tie
+use Rattle.cheapest_insertion.proofs.PlanLaws.{Seeking, seeking-laws}
+use Rattle.cheapest_insertion.proofs.cheapest.Statement.{statement}
+use Rattle.cheapest_insertion.proofs.cheapest.Tie as tie
 
 abbrev Inv-loop : tie.InvT-loop
 Inv-loop cells₀ lengths stops c needed vehicle demand n distances times service ready due penalty flags best₀ at₀ k₀ cells best at k =

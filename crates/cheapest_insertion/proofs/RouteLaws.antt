@@ -1,4 +1,4 @@
--- Laws of specs/Cheapest on one route, each from the facts that the code has where it needs it. Assumes nothing.
+-- Laws of the definitions of `insertion` (specs/Cheapest) on one route, each from the facts that the code has where it needs it. Assumes nothing.
 use Prim.Native.Nat.{ℕ, suc}
 use mathlib.Core.Path.{_≡_, refl, sym, _∙_}
 use mathlib.Core.Bool.{Bool, true, false}

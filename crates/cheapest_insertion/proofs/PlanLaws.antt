@@ -1,4 +1,4 @@
--- Laws of specs/Cheapest on the routes of a plan, each from the facts that the code has where it needs it. Assumes nothing.
+-- Laws of the definitions of `insertion` (specs/Cheapest) on the routes of a plan, each from the facts that the code has where it needs it. Assumes nothing.
 use Prim.Native.Nat.{ℕ, _+_, _-_, _≤_, _<_}
 use native.Mathlib.Nat.{le-antisymm}
 use mathlib.Core.Path.{_≡_, refl, sym, _∙_}
