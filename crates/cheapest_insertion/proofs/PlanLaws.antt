@@ -13,12 +13,12 @@ use Rattle.laws.specs.Loops.{loop, loop-none, loop-more, loop-end}
 use Rattle.models.specs.Problem.{Problem, Stops, Admitted}
 use Rattle.plan.specs.Plan.{Plan, Lent, split, route}
 use Rattle.plan.specs.Slices.{length-split}
-use Rattle.local_search.specs.declared.route.Insertion.{Insertion}
-use Rattle.local_search.specs.declared.route.Best.{Best}
-use Rattle.local_search.specs.declared.route.Best.the-variants.{Nothing}
-use Rattle.local_search.specs.Route.{chosen}
-use Rattle.local_search.specs.Feasible.{constrained}
-use Rattle.local_search.proofs.VisitLaws.{Visiting, visit-start, part-is, visit-more, visit-laws}
+use Rattle.route_cost.specs.declared.Insertion.{Insertion}
+use Rattle.route_cost.specs.declared.Best.{Best}
+use Rattle.route_cost.specs.declared.Best.the-variants.{Nothing}
+use Rattle.route_cost.specs.Route.{chosen}
+use Rattle.route_load.specs.Feasible.{constrained}
+use Rattle.route_cost.proofs.VisitLaws.{Visiting, visit-start, part-is, visit-more, visit-laws}
 use Rattle.insertion.specs.Cheapest.{try-route, cheapest}
 
 -- a turn of the loop over routes

@@ -10,8 +10,8 @@ use lib.Ieee.{Float}
 use Rattle.laws.specs.Loops.{loop, loop-same}
 use Rattle.models.specs.declared.vehicle.Vehicle.{Vehicle}
 use Rattle.models.specs.Problem.{Problem, problem, of-demand}
-use Rattle.local_search.specs.declared.route.Insertion.{Insertion}
-use Rattle.local_search.specs.Feasible.{has-room}
+use Rattle.route_cost.specs.declared.Insertion.{Insertion}
+use Rattle.route_load.specs.Feasible.{has-room}
 use Rattle.local_search.proofs.ReadLaws.{room-any}
 use Rattle.quick_test.specs.Quick.{Times, times as times-along}
 use Rattle.route_times.specs.Prepared.{held, Prepared, prepared-missed, prepared-read, prepared-any}

@@ -10,14 +10,14 @@ ghost use Rattle.models.specs.RouteLimits.{limits-of};
 ghost use Rattle.models.specs.Problem.{matrix, problem, Fit, Stops, Admitted};
 ghost use Rattle.evaluation.specs.Check.{route-checks-needed};
 ghost use Rattle.plan.specs.Plan.{Lent, split};
-ghost use Rattle.local_search.specs.Route.{chosen};
+ghost use Rattle.route_cost.specs.Route.{chosen};
 ghost use Rattle.route_times.specs.Prepared.{held};
 ghost use Rattle.insertion.specs.Cheapest.{try-route, cheapest};
 ghost use Rattle.insertion.specs.Pass.{pass-position};
 use insertion::try_position;
-use local_search::feasible::has_room;
-use local_search::route::Best;
 use models::vehicle::Vehicle;
+use route_cost::Best;
+use route_load::has_room;
 use route_times::prepare;
 
 // Every position of route k, which has room for c, its end too.

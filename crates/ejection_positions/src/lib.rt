@@ -15,9 +15,9 @@ use ejection::Best;
 use ejection::Ejection;
 use ejection::outranks;
 use insertion::may_pass;
-use local_search::feasible::has_room;
-use local_search::route::insertion_cost;
 use models::vehicle::Vehicle;
+use route_cost::insertion_cost;
+use route_load::has_room;
 use route_times::prepare;
 
 // Who leaves: the sum of their failures, the route and their two places in it, the same one twice where one stop leaves.

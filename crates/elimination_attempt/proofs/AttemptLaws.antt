@@ -19,9 +19,9 @@ use Rattle.models.specs.Problem.{Problem, problem, Stops}
 use Rattle.plan.specs.Plan.{Plan, Holds, Lent, split, route, total, offset, saved}
 use Rattle.plan.specs.Slices.{flat-split, route-split, route-within, length-split, length-route, total-erase}
 use Rattle.local_search.specs.Options.{bind, then-some}
-use Rattle.local_search.specs.Route.{gain-floor}
+use Rattle.route_cost.specs.Route.{gain-floor}
 use Rattle.local_search.specs.Planned.{planned-stops}
-use Rattle.local_search.proofs.VisitLaws.{Visiting, part-is}
+use Rattle.route_cost.proofs.VisitLaws.{Visiting, part-is}
 use Rattle.reinsertion.specs.Candidates.{worth}
 use Rattle.elimination_moves.specs.Eliminate.{Moved, moving, move-all, if-gained, without-route}
 use Rattle.elimination_moves.specs.declared.moves.Sum.{Sum}

@@ -9,7 +9,7 @@ ghost use Rattle.models.specs.Vehicle.{fixed-cost-in-distance};
 ghost use Rattle.models.specs.Problem.{matrix, problem};
 ghost use Rattle.plan.specs.Plan.{Lent, split, route, total};
 ghost use Rattle.local_search.specs.Options.{then-some};
-ghost use Rattle.local_search.specs.Route.{gain-floor};
+ghost use Rattle.route_cost.specs.Route.{gain-floor};
 ghost use Rattle.reinsertion.specs.Candidates.{worth};
 ghost use Rattle.elimination_moves.specs.Eliminate.{move-all, without-route};
 ghost use Rattle.elimination_moves.specs.Largest.{in-order};

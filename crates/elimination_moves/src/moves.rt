@@ -10,11 +10,11 @@ ghost use Rattle.reinsertion.specs.Asked.{Asked, Room};
 ghost use Rattle.elimination_moves.specs.Largest.{first-largest, in-order};
 ghost use Rattle.elimination_moves.specs.Moves.{so-far, held-by, Waiting, Kept};
 use crate::largest::take_largest;
-use local_search::route::Best;
 use models::vehicle::Vehicle;
 use plan::put_in;
 use reinsertion::place::Move;
 use reinsertion::place::place;
+use route_cost::Best;
 
 // What was added to the worth of the other routes, or nothing once a stop has no place.
 pub enum Sum {

@@ -8,17 +8,17 @@ ghost use Rattle.models.specs.Customer.{customers};
 ghost use Rattle.models.specs.RouteLimits.{limits-of};
 ghost use Rattle.models.specs.Problem.{matrix, problem, Fit, Stops};
 ghost use Rattle.evaluation.specs.Check.{route-checks-needed};
-ghost use Rattle.local_search.specs.Route.{chosen};
+ghost use Rattle.route_cost.specs.Route.{chosen};
 ghost use Rattle.quick_test.specs.Quick.{may-fit};
 ghost use Rattle.route_times.specs.Prepared.{held};
 ghost use Rattle.insertion.specs.Cheapest.{cheaper};
 ghost use Rattle.insertion.specs.Pass.{may-pass, pass-position};
 use local_search::feasible::trial_ok;
-use local_search::route::Best;
-use local_search::route::Insertion;
-use local_search::route::insertion_cost;
 use models::vehicle::Vehicle;
 use quick_test::may_fit;
+use route_cost::Best;
+use route_cost::Insertion;
+use route_cost::insertion_cost;
 
 // The quick test by the departures and latest arrivals in the work cells.
 fn quick(

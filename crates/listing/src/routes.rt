@@ -10,10 +10,10 @@ ghost use Rattle.listing.specs.Written.{Room, Written};
 use crate::lines::put_first_line;
 use crate::lines::put_last_line;
 use crate::lines::put_route_line;
-use local_search::feasible::load;
 use local_search::rounds::Counts;
-use local_search::route::route_distance;
 use models::vehicle::Vehicle;
+use route_cost::route_distance;
+use route_load::load;
 
 // The line of a route, with its load and its distance.
 fn put_route(

@@ -8,7 +8,6 @@ use break_clock::schedule;
 use evaluation::check;
 use evaluation::eval;
 use lateness_bound::bound;
-use local_search::route;
 use models::customer::TimeWindow;
 use models::customer::Window;
 use models::limits::RouteLimits;
@@ -216,7 +215,7 @@ pub fn route_distance(
     if r != 0 {
         return Number::Refused(r);
     }
-    let distance = route::route_distance(route, vehicle.depot_id, n, distances);
+    let distance = route_cost::route_distance(route, vehicle.depot_id, n, distances);
     Number::Answered(distance)
 }
 
@@ -286,7 +285,7 @@ pub fn gain_floor(
     if r != 0 {
         return Number::Refused(r);
     }
-    let floor = route::gain_floor(distances);
+    let floor = route_cost::gain_floor(distances);
     Number::Answered(floor)
 }
 

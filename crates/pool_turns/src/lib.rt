@@ -19,9 +19,9 @@ use ejection::Best as Ejected;
 use ejection_made::make_room;
 use ejection_search::eject;
 use local_search::rounds::Counts;
-use local_search::route::Best;
 use models::vehicle::Vehicle;
 use random_moves::perturb;
+use route_cost::Best;
 
 // How a turn ends: no ejection works; or the number in the pool. With the counts of the call so far.
 pub enum Turn {

@@ -13,10 +13,10 @@ use floats::abs;
 use floats::infinity;
 use floats::max;
 use floats::min;
-use local_search::route::prev_stop;
 use models::customer::Customer;
 use models::customer::Window;
 use models::customer::customer_at;
+use route_cost::prev_stop;
 
 // When the service of a customer ends after `arrival`; missed once its window has closed, with a penalty or without.
 pub fn served_at(arrival: f64, customer: Customer) -> Left

@@ -15,9 +15,9 @@ use Rattle.models.specs.Problem.{Problem, depot}
 use Rattle.evaluation.specs.Eval.{effective-cost}
 use Rattle.evaluation.specs.Check.{has-soft-windows}
 use Rattle.plan.specs.Plan.{Plan, route}
-use Rattle.local_search.specs.declared.route.Insertion.{Insertion}
-use Rattle.local_search.specs.Route.{route-distance, insertion-cost}
-use Rattle.local_search.specs.Feasible.{has-room, checked}
+use Rattle.route_cost.specs.declared.Insertion.{Insertion}
+use Rattle.route_cost.specs.Route.{route-distance, insertion-cost}
+use Rattle.route_load.specs.Feasible.{has-room, checked}
 
 -- ---- what a route is worth, and what an insertion costs
 

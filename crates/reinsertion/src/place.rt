@@ -8,7 +8,7 @@ ghost use Rattle.floats.specs.Binary64.{is-finite};
 ghost use Rattle.laws.specs.Loops.{loop};
 ghost use Rattle.models.specs.Problem.{problem, Stops};
 ghost use Rattle.plan.specs.Plan.{split};
-ghost use Rattle.local_search.specs.Route.{chosen};
+ghost use Rattle.route_cost.specs.Route.{chosen};
 ghost use Rattle.reinsertion.specs.Candidates.{candidates, by-cost, first-passing};
 ghost use Rattle.reinsertion.specs.Place.{current, comes-first, settles, look-at, look-through, look-over};
 ghost use Rattle.reinsertion.specs.Asked.{Asked, Looked, Room};
@@ -16,11 +16,11 @@ use crate::worth::current;
 use crate::worth::insertion_worth;
 use floats::is_finite;
 use floats::total_less;
-use local_search::feasible::has_room;
 use local_search::feasible::trial_ok;
-use local_search::route::Best;
-use local_search::route::Insertion;
 use models::vehicle::Vehicle;
+use route_cost::Best;
+use route_cost::Insertion;
+use route_load::has_room;
 
 // A stop c that is to be moved: what was added to the worth of the other routes so far, what is saved, whether a window is soft and whether
 // the check is needed.

@@ -14,10 +14,10 @@ ghost use Rattle.reinsertion.specs.Place.{current};
 use cells::copy_part;
 use cells::insert_at;
 use evaluation::eval::effective_cost;
-use local_search::route::insertion_cost;
-use local_search::route::route_distance;
 use models::limits::RouteLimits;
 use models::vehicle::Vehicle;
+use route_cost::insertion_cost;
+use route_cost::route_distance;
 
 // What a route is worth.
 pub fn worth(

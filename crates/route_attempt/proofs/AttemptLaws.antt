@@ -23,7 +23,7 @@ use Rattle.plan.specs.Slices.{route-within, route-split, length-split, flat-spl
 use Rattle.local_search.specs.declared.rounds.Counts.{Counts}
 use Rattle.local_search.specs.Options.{Each, each-found, bind, then-some}
 use Rattle.local_search.specs.Planned.{Planned, planned-stops}
-use Rattle.local_search.specs.Route.{cost}
+use Rattle.route_cost.specs.Route.{cost}
 use Rattle.local_search.specs.Rounds.{Tried}
 use Rattle.local_search.specs.Search.{Ends-with-0, but-last}
 use Rattle.local_search.proofs.ReadLaws.{cost-any}

@@ -12,7 +12,7 @@ use Rattle.route_order.specs.declared.Pick.the-variants.{At}
 use Rattle.plan.specs.Plan.{Plan, split, total}
 use Rattle.route_order.specs.Order.{next-pick, following}
 use Rattle.local_search.specs.Options.{then-some}
-use Rattle.local_search.specs.Feasible.{constrained}
+use Rattle.route_load.specs.Feasible.{constrained}
 use Rattle.local_search.specs.declared.rounds.Counts.{Counts}
 use Rattle.local_search.specs.declared.rounds.Next.{Next}
 use Rattle.local_search.specs.declared.rounds.Next.the-variants.{Kept, Accepted as Took}

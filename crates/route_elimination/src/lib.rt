@@ -10,8 +10,8 @@ use crate::round::try_next;
 use evaluation::check::has_soft_windows;
 use local_search::feasible::constrained;
 use local_search::rounds::Next;
-use local_search::route::gain_floor;
 use models::vehicle::Vehicle;
+use route_cost::gain_floor;
 use route_order::Pick;
 use route_removal::drop_empty;
 

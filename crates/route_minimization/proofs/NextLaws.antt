@@ -12,7 +12,7 @@ use Rattle.plan.specs.Plan.{split, total, padded, drop-zero}
 use Rattle.route_order.specs.Order.{next-pick, following}
 use Rattle.local_search.specs.declared.rounds.Counts.{Counts}
 use Rattle.local_search.specs.Planned.{Planned}
-use Rattle.local_search.specs.Route.{cost}
+use Rattle.route_cost.specs.Route.{cost}
 use Rattle.local_search.specs.Rounds.{Tried, try-each}
 use Rattle.local_search.specs.Search.{Refused, Taken, but-last}
 use Rattle.local_search.proofs.NextLaws.{in-use, next-kept, next-refused, next-accepted, next-taken}

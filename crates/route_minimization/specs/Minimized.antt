@@ -18,8 +18,8 @@ use Rattle.plan.specs.Plan.{Plan, route, non-empty, drop-empty, occurs}
 use Rattle.plan.specs.Routes.{occurs-erase}
 use Rattle.plan.specs.Dropped.{occurs-drop-empty}
 use Rattle.local_search.specs.Options.{Each, each-then-some, each-bind}
-use Rattle.local_search.specs.Route.{cost}
-use Rattle.local_search.specs.Feasible.{feasible}
+use Rattle.route_cost.specs.Route.{cost}
+use Rattle.route_load.specs.Feasible.{feasible}
 use Rattle.local_search.specs.declared.rounds.Counts.{Counts}
 use Rattle.local_search.specs.Rounds.{Result, reduce}
 use Rattle.local_search.specs.Reduced.{Better, Bounded, Reduces, reduces-fewer, triangle, Ended, reduce-ended}

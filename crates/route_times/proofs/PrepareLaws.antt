@@ -9,7 +9,7 @@ use lib.ListN.{length, take, drop, length-take, length-drop}
 use lib.Seq.{take-append-le, drop-at, take-take, length-take-le}
 use lib.Ieee.{Float}
 use Rattle.models.specs.Problem.{Problem, Stops, depot}
-use Rattle.local_search.specs.Feasible.{constrained}
+use Rattle.route_load.specs.Feasible.{constrained}
 use Rattle.quick_test.specs.Quick.{departures, latest-arrivals, with-latest, times}
 use Rattle.quick_test.specs.Parts.{told}
 use Rattle.route_times.specs.Prepared.{held, Prepared}

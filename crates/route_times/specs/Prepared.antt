@@ -9,7 +9,7 @@ use lib.Ieee.{Float}
 use lib.IntN.{ℤ}
 use Rattle.models.specs.declared.vehicle.Vehicle.{Vehicle}
 use Rattle.models.specs.Problem.{Problem, problem}
-use Rattle.local_search.specs.Feasible.{constrained}
+use Rattle.route_load.specs.Feasible.{constrained}
 use Rattle.quick_test.specs.Quick.{Times, times}
 use Rattle.quick_test.specs.Parts.{told}
 

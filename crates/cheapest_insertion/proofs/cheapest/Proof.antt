@@ -3,7 +3,7 @@ use Prim.Native.Nat.{_-_}
 use lib.ListN.{length}
 use borrow.Author.Needs.{needs}
 use Rattle.models.specs.Problem.{problem}
-use Rattle.local_search.proofs.VisitLaws.{part-end, part-stops}
+use Rattle.route_cost.proofs.VisitLaws.{part-end, part-stops}
 use Rattle.cheapest_insertion.proofs.PlanLaws.{Seeking, seeking-laws}
 use Rattle.cheapest_insertion.proofs.cheapest.Statement.{statement}
 use Rattle.cheapest_insertion.proofs.cheapest.Tie as tie

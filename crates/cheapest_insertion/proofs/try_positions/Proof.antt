@@ -5,7 +5,7 @@ use lib.ListN.{length}
 use borrow.Author.Needs.{needs}
 use native.Mathlib.Omega.{arith}
 use Rattle.models.specs.Problem.{problem}
-use Rattle.local_search.specs.Route.{chosen}
+use Rattle.route_cost.specs.Route.{chosen}
 use Rattle.route_times.specs.Prepared.{held}
 use Rattle.insertion.specs.Pass.{pass-position}
 use Rattle.insertion.proofs.AlongLaws.{Along, along-more, along-laws}

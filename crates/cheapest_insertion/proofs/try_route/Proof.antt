@@ -1,7 +1,7 @@
 -- `try_route` meets its contract.
 use borrow.Author.Needs.{needs}
 use native.Mathlib.Omega.{arith}
-use Rattle.local_search.proofs.FeasibleLaws.{demands-own, stops-own, place-own}
+use Rattle.route_load.proofs.FeasibleLaws.{demands-own, stops-own, place-own}
 use Rattle.cheapest_insertion.proofs.RouteLaws.{route-laws}
 use Rattle.cheapest_insertion.proofs.try_route.Statement.{statement}
 use Rattle.cheapest_insertion.proofs.try_route.Tie as tie
