@@ -11,10 +11,10 @@ ghost use Rattle.entry.specs.Rows.{problem-rows, route-rows, plan-rows, work-ro
 use entry::stops::bad_lengths;
 use entry::stops::stops_pass;
 use models::vehicle::Vehicle;
+use place_checks::places_pass;
+use place_checks::windows_pass;
 use problem_checks::amounts::amounts_pass;
 use problem_checks::amounts::vehicle_passes;
-use problem_checks::places::places_pass;
-use problem_checks::places::windows_pass;
 use problem_checks::sizes::sizes_pass;
 
 // Whether row 2 lets the problem pass, where row 1 does.

@@ -1,12 +1,12 @@
--- `places::places_pass` meets its contract.
+-- `places_pass` meets its contract.
 use Prim.Native.Nat.{_-_}
 use mathlib.Core.List.{[]}
 use lib.ListN.{length}
 use Rattle.laws.specs.Passed.{Passed, every-laws}
 use Rattle.models.specs.Customer.{customers}
 use Rattle.models.specs.Valid.{place-passes}
-use Rattle.problem_checks.proofs.places.places_pass.Statement.{statement}
-use Rattle.problem_checks.proofs.places.places_pass.Tie as tie
+use Rattle.place_checks.proofs.places_pass.Statement.{statement}
+use Rattle.place_checks.proofs.places_pass.Tie as tie
 
 abbrev Inv-loop : tie.InvT-loop
 Inv-loop demand ready due penalty flags c₀ c = Passed (place-passes demand (customers [] ready due penalty flags)) (length demand) c

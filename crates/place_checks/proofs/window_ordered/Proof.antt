@@ -1,8 +1,8 @@
--- `places::window_ordered` meets its contract.
+-- `window_ordered` meets its contract.
 use borrow.Author.Needs.{needs}
 use Rattle.laws.specs.Picks.{picks}
-use Rattle.problem_checks.proofs.places.window_ordered.Statement.{statement}
-use Rattle.problem_checks.proofs.places.window_ordered.Tie as tie
+use Rattle.place_checks.proofs.window_ordered.Statement.{statement}
+use Rattle.place_checks.proofs.window_ordered.Tie as tie
 
 shared-slice-read-if1 : tie.Need-shared-slice-read-if1
 shared-slice-read-if1 c = search needs

@@ -1,12 +1,12 @@
--- `places::windows_pass` meets its contract.
+-- `windows_pass` meets its contract.
 use Prim.Native.Nat.{_-_}
 use mathlib.Core.List.{[]}
 use lib.ListN.{length}
 use Rattle.laws.specs.Passed.{Passed, every-laws}
 use Rattle.models.specs.Customer.{customers}
 use Rattle.models.specs.Valid.{window-ordered}
-use Rattle.problem_checks.proofs.places.windows_pass.Statement.{statement}
-use Rattle.problem_checks.proofs.places.windows_pass.Tie as tie
+use Rattle.place_checks.proofs.windows_pass.Statement.{statement}
+use Rattle.place_checks.proofs.windows_pass.Tie as tie
 
 abbrev Inv-loop : tie.InvT-loop
 Inv-loop ready due flags c₀ c = Passed (window-ordered (customers [] ready due [] flags)) (length flags) c

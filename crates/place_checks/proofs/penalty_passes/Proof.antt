@@ -1,8 +1,8 @@
--- `places::penalty_passes` meets its contract.
+-- `penalty_passes` meets its contract.
 use borrow.Author.Needs.{needs}
 use Rattle.laws.specs.Picks.{picks}
-use Rattle.problem_checks.proofs.places.penalty_passes.Statement.{statement}
-use Rattle.problem_checks.proofs.places.penalty_passes.Tie as tie
+use Rattle.place_checks.proofs.penalty_passes.Statement.{statement}
+use Rattle.place_checks.proofs.penalty_passes.Tie as tie
 
 shared-slice-read-if1 : tie.Need-shared-slice-read-if1
 shared-slice-read-if1 c = search needs

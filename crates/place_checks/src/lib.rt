@@ -1,4 +1,4 @@
-// Rows 2 and 3, place by place: windows, penalties, demands, flags. A value whose flag is clear is not read.
+// Rows 2 and 3 of the refusal table in code, place by place: windows, penalties, demands, flags. A value whose flag is clear is not read.
 ghost use mathlib.Core.Path.{_≡_};
 ghost use mathlib.Core.List.{[]};
 ghost use Prim.Native.Nat.{_<_};
@@ -6,7 +6,7 @@ ghost use lib.ListN.{length};
 ghost use Rattle.laws.specs.Searches.{every};
 ghost use Rattle.models.specs.Customer.{customers};
 ghost use Rattle.models.specs.Valid.{window-passes, penalty-passes, demand-passes, place-passes, window-ordered};
-use crate::amounts::is_amount;
+use problem_checks::amounts::is_amount;
 
 // Whether the window of place c, if it has one, is of two amounts.
 fn window_passes(c: usize, ready: &[f64], due: &[f64], flags: &[u8]) -> bool

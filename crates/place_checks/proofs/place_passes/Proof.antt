@@ -1,8 +1,8 @@
--- `places::place_passes` meets its contract.
+-- `place_passes` meets its contract.
 use borrow.Author.Needs.{needs}
-use Rattle.problem_checks.proofs.AmountLaws.{place-laws}
-use Rattle.problem_checks.proofs.places.place_passes.Statement.{statement}
-use Rattle.problem_checks.proofs.places.place_passes.Tie as tie
+use Rattle.place_checks.proofs.PlaceLaws.{place-laws}
+use Rattle.place_checks.proofs.place_passes.Statement.{statement}
+use Rattle.place_checks.proofs.place_passes.Tie as tie
 
 shared-slice-read-if1 : tie.Need-shared-slice-read-if1
 shared-slice-read-if1 c = search needs
