@@ -6,7 +6,6 @@ ghost use Rattle.planner_questions.specs.Told.{checked-told, evaluated-t
 use break_clock::route_eval::Eval;
 use break_clock::schedule;
 use evaluation::check;
-use evaluation::eval;
 use lateness_bound::bound;
 use models::customer::TimeWindow;
 use models::customer::Window;
@@ -117,7 +116,7 @@ pub fn route_eval(
     if r != 0 {
         return Evaluated::Refused(r); // not evaluated
     }
-    let worth = eval::route_eval(
+    let worth = route_worth::route_eval(
         route,
         vehicle.depot_id,
         RouteLimits::of(vehicle),
@@ -166,7 +165,7 @@ pub fn effective_cost(
     if r != 0 {
         return Number::Refused(r); // not weighed
     }
-    let cost = eval::effective_cost(
+    let cost = route_worth::effective_cost(
         route,
         vehicle.depot_id,
         RouteLimits::of(vehicle),

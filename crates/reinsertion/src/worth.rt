@@ -13,11 +13,11 @@ ghost use Rattle.reinsertion.specs.Candidates.{worth, insertion-worth};
 ghost use Rattle.reinsertion.specs.Place.{current};
 use cells::copy_part;
 use cells::insert_at;
-use evaluation::eval::effective_cost;
 use models::limits::RouteLimits;
 use models::vehicle::Vehicle;
 use route_cost::insertion_cost;
 use route_cost::route_distance;
+use route_worth::effective_cost;
 
 // What a route is worth.
 pub fn worth(

@@ -1,4 +1,4 @@
--- Laws of specs/Eval, each from the facts that the code has where it needs it. Assumes nothing.
+-- Laws of the definitions of `evaluation` (specs/Eval), each from the facts that the code has where it needs it. Assumes nothing.
 use Prim.Native.Nat.{ℕ, _+_, _<_, _≤_}
 use mathlib.Core.Path.{_≡_, refl, sym, ap, subst, _∙_}
 use mathlib.Core.Bool.{Bool, true, false}
@@ -29,19 +29,8 @@ use Rattle.labels.specs.declared.Served.the-variants.{Dead, Live}
 use Rattle.labels.specs.Labels.{serve-at}
 use Rattle.break_clock.specs.Schedule.{ended, schedule}
 use Rattle.break_clock.specs.RouteEval.{priced-distance}
 use Rattle.evaluation.specs.Eval.{limited, set-out, walked, drive, onward, drive-all, home, homeward, eval-with, route-eval, worth, effective-cost}
 use Rattle.break_clock.proofs.StopLaws.{stops-all}
-
--- ---- an evaluation and the limits
-
-module _ (l : RouteLimits) (e : Eval) (x : RouteEval) (v : Bool) where
-  pub limited-in : e ≡ Feasible x → v ≡ allow l (x .distance) (x .duration) → v ≡ true → Feasible x ≡ limited l e
-  limited-in ee ev h = rw (ee, ← ev, h)
-
-  pub limited-out : e ≡ Feasible x → v ≡ allow l (x .distance) (x .duration) → v ≡ false → Infeasible ≡ limited l e
-  limited-out ee ev h = rw (ee, ← ev, h)
-
-pub ruleset limited-laws = (limited-in, limited-out)
 
 -- ---- one stop
 

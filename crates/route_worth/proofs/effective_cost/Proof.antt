@@ -1,8 +1,8 @@
--- `eval::effective_cost` meets its contract.
+-- `effective_cost` meets its contract.
 use borrow.Author.Needs.{needs}
-use Rattle.evaluation.proofs.EvalLaws.{cost-laws}
-use Rattle.evaluation.proofs.eval.effective_cost.Tie as tie
-use Rattle.evaluation.proofs.eval.effective_cost.Statement.{statement}
+use Rattle.route_worth.proofs.EvalLaws.{cost-laws}
+use Rattle.route_worth.proofs.effective_cost.Tie as tie
+use Rattle.route_worth.proofs.effective_cost.Statement.{statement}
 
 route-eval-requires : tie.Need-route-eval-requires
 route-eval-requires c κs = search needs

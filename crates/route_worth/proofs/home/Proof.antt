@@ -1,8 +1,8 @@
--- `eval::home` meets its contract.
+-- `home` meets its contract.
 use borrow.Author.Needs.{needs}
-use Rattle.evaluation.proofs.EvalLaws.{home-laws}
-use Rattle.evaluation.proofs.eval.home.Statement.{statement}
-use Rattle.evaluation.proofs.eval.home.Tie as tie
+use Rattle.route_worth.proofs.EvalLaws.{home-laws}
+use Rattle.route_worth.proofs.home.Statement.{statement}
+use Rattle.route_worth.proofs.home.Tie as tie
 
 get-requires : tie.Need-get-requires
 get-requires c κs = search needs

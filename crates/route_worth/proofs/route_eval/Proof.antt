@@ -1,8 +1,8 @@
--- `eval::route_eval` meets its contract.
+-- `route_eval` meets its contract.
 use borrow.Author.Needs.{needs}
-use Rattle.evaluation.proofs.EvalLaws.{eval-laws, drive-ends}
-use Rattle.evaluation.proofs.eval.route_eval.Statement.{statement}
-use Rattle.evaluation.proofs.eval.route_eval.Tie as tie
+use Rattle.route_worth.proofs.EvalLaws.{eval-laws, drive-ends}
+use Rattle.route_worth.proofs.route_eval.Statement.{statement}
+use Rattle.route_worth.proofs.route_eval.Tie as tie
 
 enum-known-rest : tie.Need-enum-known-rest
 enum-known-rest c = search needs
