@@ -2,7 +2,7 @@
 // may go in there. The definitions of the whole search and their laws are in specs/.
 ghost use mathlib.Core.Path.{_≡_};
 ghost use mathlib.Core.List.{[]};
-ghost use Prim.Native.Nat.{_-_, _<_, _≤_};
+ghost use Prim.Native.Nat.{_<_, _≤_};
 ghost use lib.ListN.{length, take, drop};
 ghost use Rattle.models.specs.Customer.{customers};
 ghost use Rattle.models.specs.RouteLimits.{limits-of};

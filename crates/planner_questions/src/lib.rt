@@ -4,7 +4,6 @@ ghost use Rattle.models.specs.Problem.{problem};
 ghost use Rattle.planner.specs.Calls.{public-route-feasible, public-route-eval, public-effective-cost, public-schedule, public-route-distance, public-lateness-bound, public-gain-floor, public-time-window-new};
 ghost use Rattle.planner_questions.specs.Told.{checked-told, evaluated-told, number-told};
 use break_clock::route_eval::Eval;
-use break_clock::schedule;
 use evaluation::check;
 use lateness_bound::bound;
 use models::customer::TimeWindow;
@@ -323,7 +322,7 @@ pub fn schedule(
     if r != 0 {
         return Evaluated::Refused(r); // not scheduled
     }
-    let timed = schedule::schedule(
+    let timed = break_schedule::schedule(
         route,
         vehicle.depot_id,
         rest,

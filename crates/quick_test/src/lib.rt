@@ -1,7 +1,7 @@
 // The quick test of the ejection pool (local_search/route_minimization.rs) at one stop: when it is left, how late it may be reached, and, by these
 // two and in one step, whether a stop may go in between.
 ghost use mathlib.Core.Path.{_≡_};
-ghost use Prim.Native.Nat.{_-_, _≤_, _<_};
+ghost use Prim.Native.Nat.{_≤_, _<_};
 ghost use lib.ListN.{length, getD, take};
 ghost use Rattle.models.specs.Customer.{customers, customer-at};
 ghost use Rattle.models.specs.Problem.{matrix, Square, Fit, Stops};
@@ -15,7 +15,7 @@ use floats::max;
 use floats::min;
 use models::customer::Customer;
 use models::customer::Window;
-use models::customer::customer_at;
+use place_record::customer_at;
 use route_cost::prev_stop;
 
 // When the service of a customer ends after `arrival`; missed once its window has closed, with a penalty or without.

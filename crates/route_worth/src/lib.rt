@@ -3,10 +3,10 @@ ghost use mathlib.Core.Path.{_≡_};
 ghost use Prim.Native.Nat.{_<_};
 ghost use Rattle.models.specs.Customer.{customers};
 ghost use Rattle.models.specs.Problem.{matrix, Square, Fit, Stops};
-ghost use Rattle.evaluation.specs.Eval.{drive, drive-all, home, limited, route-eval, effective-cost};
+ghost use Rattle.evaluation.specs.Eval.{drive, drive-all, home, route-eval, effective-cost};
 use break_clock::route_eval::Eval;
 use break_clock::route_eval::RouteEval;
-use break_clock::schedule::schedule;
+use break_schedule::schedule;
 use distance::get;
 use distance::travel_time;
 use evaluation::eval::Walk;
@@ -16,10 +16,10 @@ use floats::infinity;
 use labels::Served;
 use labels::Taken;
 use labels::serve_at;
-use models::customer::customer_at;
 use models::limits::RouteLimits;
 use models::vehicle::Rest;
 use models::vehicle::VehicleBreak;
+use place_record::customer_at;
 
 // The drive to the next stop and the service there.
 pub fn drive(

@@ -1,8 +1,8 @@
--- `customer::window_at` meets its contract.
+-- `window_at` meets its contract.
 use borrow.Author.Needs.{needs}
 use Rattle.laws.specs.Picks.{picks}
-use Rattle.models.proofs.customer.window_at.Tie as tie
-use Rattle.models.proofs.customer.window_at.Statement.{statement}
+use Rattle.place_record.proofs.window_at.Tie as tie
+use Rattle.place_record.proofs.window_at.Statement.{statement}
 
 shared-slice-read-f : tie.Need-shared-slice-read-f
 shared-slice-read-f c = search needs

@@ -1,8 +1,8 @@
--- `schedule::ride_home` meets its contract.
+-- `ride_home` meets its contract.
 use borrow.Author.Needs.{needs}
 use Rattle.break_clock.proofs.ScheduleLaws.{ride-home-is}
-use Rattle.break_clock.proofs.schedule.ride_home.Statement.{statement}
-use Rattle.break_clock.proofs.schedule.ride_home.Tie as tie
+use Rattle.break_schedule.proofs.ride_home.Statement.{statement}
+use Rattle.break_schedule.proofs.ride_home.Tie as tie
 
 get-requires : tie.Need-get-requires
 get-requires c κs = search needs

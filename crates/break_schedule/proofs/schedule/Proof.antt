@@ -1,8 +1,8 @@
--- `schedule::schedule` meets its contract.
+-- `schedule` meets its contract.
 use borrow.Author.Needs.{needs}
 use Rattle.break_clock.proofs.ScheduleLaws.{schedule-laws, ride-ends}
-use Rattle.break_clock.proofs.schedule.schedule.Statement.{statement}
-use Rattle.break_clock.proofs.schedule.schedule.Tie as tie
+use Rattle.break_schedule.proofs.schedule.Statement.{statement}
+use Rattle.break_schedule.proofs.schedule.Tie as tie
 
 new-requires : tie.Need-new-requires
 new-requires c κs = search needs

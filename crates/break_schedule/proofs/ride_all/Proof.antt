@@ -1,14 +1,14 @@
--- `schedule::ride_all` meets its contract.
+-- `ride_all` meets its contract.
 use Prim.Native.Nat.{_-_}
 use borrow.Author.Needs.{needs}
 use lib.ListN.{length}
 use native.Mathlib.Omega.{arith}
 use Rattle.break_clock.proofs.ScheduleLaws.{Riding-along, along-laws, along-index}
 use Rattle.break_clock.proofs.StopLaws.{stop-laws}
 use Rattle.models.specs.Customer.{customers}
 use Rattle.models.specs.Problem.{matrix}
-use Rattle.break_clock.proofs.schedule.ride_all.Statement.{statement}
-use Rattle.break_clock.proofs.schedule.ride_all.Tie as tie
+use Rattle.break_schedule.proofs.ride_all.Statement.{statement}
+use Rattle.break_schedule.proofs.ride_all.Tie as tie
 
 abbrev Inv-loop : tie.InvT-loop
 Inv-loop rest stops n distances times service ready due penalty flags at₀ i₀ at i = Riding-along (customers service ready due penalty flags) (matrix n distances times) rest stops at₀ at i

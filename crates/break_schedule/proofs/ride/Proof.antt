@@ -1,8 +1,8 @@
--- `schedule::ride` meets its contract.
+-- `ride` meets its contract.
 use borrow.Author.Needs.{needs}
 use Rattle.break_clock.proofs.ScheduleLaws.{ride-laws}
-use Rattle.break_clock.proofs.schedule.ride.Statement.{statement}
-use Rattle.break_clock.proofs.schedule.ride.Tie as tie
+use Rattle.break_schedule.proofs.ride.Statement.{statement}
+use Rattle.break_schedule.proofs.ride.Tie as tie
 
 get-requires : tie.Need-get-requires
 get-requires c κs = search needs

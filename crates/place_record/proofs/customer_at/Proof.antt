@@ -1,7 +1,7 @@
--- `customer::customer_at` meets its contract.
+-- `customer_at` meets its contract.
 use borrow.Author.Needs.{needs}
-use Rattle.models.proofs.customer.customer_at.Tie as tie
-use Rattle.models.proofs.customer.customer_at.Statement.{statement}
+use Rattle.place_record.proofs.customer_at.Tie as tie
+use Rattle.place_record.proofs.customer_at.Statement.{statement}
 
 window-at-requires : tie.Need-window-at-requires
 window-at-requires c κs = search needs
