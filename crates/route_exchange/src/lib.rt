@@ -13,7 +13,7 @@ pub fn exchange_stops(stops: &mut [u16], lengths: &[u16], a: usize, i: usize, b:
 {
     let p = offset(lengths, a) + i;
     let q = offset(lengths, b) + j;
-    cells::swap(stops, p, q);
+    cell_exchange::swap(stops, p, q);
 }
 
 // The tail of route a from i and the tail of route b from j, a later one, are exchanged.
@@ -34,7 +34,7 @@ fn exchange_in_order(
     let n = lengths[b] as usize;
     let p = offset(lengths, a);
     let q = offset(lengths, b);
-    cells::swap_parts(stops, work, p + i, p + m, q + j, q + n);
+    cell_exchange::swap_parts(stops, work, p + i, p + m, q + j, q + n);
     lengths[a] = (i + (n - j)) as u16;
     lengths[b] = (j + (m - i)) as u16;
 }

@@ -1,7 +1,7 @@
--- `rows::work_rows` meets its contract.
-use Rattle.refusals.proofs.GroupLaws.{work-laws}
-use Rattle.refusals.proofs.rows.work_rows.Statement.{statement}
-use Rattle.refusals.proofs.rows.work_rows.Tie as tie
+-- `work_rows` meets its contract.
+use Rattle.refusal_rows.proofs.GroupLaws.{work-laws}
+use Rattle.refusal_rows.proofs.work_rows.Statement.{statement}
+use Rattle.refusal_rows.proofs.work_rows.Tie as tie
 
 returns : tie.Need-returns
 returns c = search work-laws

@@ -1,10 +1,10 @@
--- `rows::values_pass` meets its contract.
+-- `values_pass` meets its contract.
 use borrow.Author.Needs.{needs}
 use Rattle.laws.specs.Picks.{picks}
 use Rattle.models.specs.Valid.{values-pass}
-use Rattle.refusals.proofs.GroupLaws.{ready-demand, due-demand, penalty-demand, flags-demand}
-use Rattle.refusals.proofs.rows.values_pass.Statement.{statement}
-use Rattle.refusals.proofs.rows.values_pass.Tie as tie
+use Rattle.refusal_rows.proofs.GroupLaws.{ready-demand, due-demand, penalty-demand, flags-demand}
+use Rattle.refusal_rows.proofs.values_pass.Statement.{statement}
+use Rattle.refusal_rows.proofs.values_pass.Tie as tie
 
 vehicle-passes-requires : tie.Need-vehicle-passes-requires
 vehicle-passes-requires c κs = search needs

@@ -1,9 +1,9 @@
--- `rows::problem_rows` meets its contract.
+-- `problem_rows` meets its contract.
 use borrow.Author.Needs.{needs}
 use Rattle.laws.specs.Picks.{via}
-use Rattle.refusals.proofs.GroupLaws.{problem-laws, ready-flags, due-flags}
-use Rattle.refusals.proofs.rows.problem_rows.Statement.{statement}
-use Rattle.refusals.proofs.rows.problem_rows.Tie as tie
+use Rattle.refusal_rows.proofs.GroupLaws.{problem-laws, ready-flags, due-flags}
+use Rattle.refusal_rows.proofs.problem_rows.Statement.{statement}
+use Rattle.refusal_rows.proofs.problem_rows.Tie as tie
 
 sizes-pass-requires : tie.Need-sizes-pass-requires
 sizes-pass-requires c κs = search needs

@@ -1,8 +1,8 @@
--- `rows::minimise_rows` meets its contract.
+-- `minimise_rows` meets its contract.
 use borrow.Author.Needs.{needs}
-use Rattle.refusals.proofs.GroupLaws.{work-laws}
-use Rattle.refusals.proofs.rows.minimise_rows.Statement.{statement}
-use Rattle.refusals.proofs.rows.minimise_rows.Tie as tie
+use Rattle.refusal_rows.proofs.GroupLaws.{work-laws}
+use Rattle.refusal_rows.proofs.minimise_rows.Statement.{statement}
+use Rattle.refusal_rows.proofs.minimise_rows.Tie as tie
 
 returns : tie.Need-returns
 returns c = search work-laws

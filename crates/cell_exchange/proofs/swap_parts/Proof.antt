@@ -1,8 +1,8 @@
 -- `swap_parts` meets its contract.
 use borrow.Author.Needs.{needs}
 use Rattle.laws.specs.Exchanges.{swap-parts-copied}
-use Rattle.cells.proofs.swap_parts.Tie as tie
-use Rattle.cells.proofs.swap_parts.Statement.{statement}
+use Rattle.cell_exchange.proofs.swap_parts.Tie as tie
+use Rattle.cell_exchange.proofs.swap_parts.Statement.{statement}
 
 sub-m : tie.Need-sub-m
 sub-m c = search needs

@@ -1,8 +1,8 @@
--- `rows::plan_rows` meets its contract.
+-- `plan_rows` meets its contract.
 use borrow.Author.Needs.{needs}
-use Rattle.refusals.proofs.GroupLaws.{plan-laws}
-use Rattle.refusals.proofs.rows.plan_rows.Statement.{statement}
-use Rattle.refusals.proofs.rows.plan_rows.Tie as tie
+use Rattle.refusal_rows.proofs.GroupLaws.{plan-laws}
+use Rattle.refusal_rows.proofs.plan_rows.Statement.{statement}
+use Rattle.refusal_rows.proofs.plan_rows.Tie as tie
 
 bad-lengths-requires : tie.Need-bad-lengths-requires
 bad-lengths-requires c κs = search needs

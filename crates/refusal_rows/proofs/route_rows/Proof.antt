@@ -1,8 +1,8 @@
--- `rows::route_rows` meets its contract.
+-- `route_rows` meets its contract.
 use borrow.Author.Needs.{needs}
-use Rattle.refusals.proofs.GroupLaws.{plan-laws}
-use Rattle.refusals.proofs.rows.route_rows.Statement.{statement}
-use Rattle.refusals.proofs.rows.route_rows.Tie as tie
+use Rattle.refusal_rows.proofs.GroupLaws.{plan-laws}
+use Rattle.refusal_rows.proofs.route_rows.Statement.{statement}
+use Rattle.refusal_rows.proofs.route_rows.Tie as tie
 
 stops-pass-requires : tie.Need-stops-pass-requires
 stops-pass-requires c κs = search needs

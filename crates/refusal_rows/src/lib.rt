@@ -1,4 +1,5 @@
-// The rows of the table in groups, by what they read. Each group answers with the number of its first row that applies, 0 for none.
+// The rows of the refusal table (entry, specs/Table.antt) in groups, by what they read. Each group answers with the number of its first row that
+// applies, 0 for none.
 ghost use mathlib.Core.Path.{_≡_};
 ghost use mathlib.Core.Bool.{true};
 ghost use mathlib.Core.List.{[]};

@@ -1,8 +1,8 @@
 -- `swap` meets its contract.
 use borrow.Author.Needs.{needs}
 use Rattle.laws.specs.Exchanges.{swap}
-use Rattle.cells.proofs.swap.Tie as tie
-use Rattle.cells.proofs.swap.Statement.{statement}
+use Rattle.cell_exchange.proofs.swap.Tie as tie
+use Rattle.cell_exchange.proofs.swap.Statement.{statement}
 
 mul-x : tie.Need-mul-x
 mul-x c = search needs
