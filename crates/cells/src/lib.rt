@@ -5,7 +5,6 @@ ghost use Prim.Native.Nat.{_+_, _-_, _≤_, _<_};
 ghost use lib.ListN.{length, take, drop, replicate};
 ghost use lib.Seq.{paste};
 ghost use Rattle.laws.specs.Edits.{insert-at, cut};
-ghost use Rattle.laws.specs.Exchanges.{swap, swap-parts};
 
 // c comes in at the front, each cell moves one place right, and the last one falls out.
 pub fn shift_right(tail: &mut [u16], c: u16)
@@ -71,28 +70,4 @@ pub fn clear(cells: &mut [u16])
         cells[i] = 0;
         i += 1;
     }
-}
-
-// The cells at i and j are exchanged.
-pub fn swap(stops: &mut [u16], i: usize, j: usize)
-    requires { ⌜ (i < length (now stops)) × (j < length (now stops)) ⌝ }
-    ensures { λ _. ⌜ now (stops .exit) ≡ swap i j (now (stops .entry)) ⌝ }
-{
-    let x = stops[i];
-    let y = stops[j];
-    stops[i] = y;
-    stops[j] = x;
-}
-
-// The part from a to b is exchanged with the part from x to y, further right. The work cells are free.
-pub fn swap_parts(stops: &mut [u16], work: &mut [u16], a: usize, b: usize, x: usize, y: usize)
-    requires { ⌜ (a ≤ b) × (b ≤ x) × (x ≤ y) × (y ≤ length (now stops)) × (y - a ≤ length (now work)) ⌝ }
-    ensures { λ _. ⌜ now (stops .exit) ≡ swap-parts a b x y (now (stops .entry)) ⌝ }
-{
-    let m = y - x;
-    let n = x - b;
-    copy_part(work, 0, stops, a, y - a);
-    copy_part(stops, a, work, x - a, m);
-    copy_part(stops, a + m, work, b - a, n);
-    copy_part(stops, a + m + n, work, 0, b - a);
 }

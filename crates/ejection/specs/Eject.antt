@@ -12,8 +12,8 @@ use Rattle.laws.specs.Loops.{loop}
 use Rattle.models.specs.Problem.{Problem, depot}
 use Rattle.plan.specs.Plan.{Plan, route}
 use Rattle.local_search.specs.Options.{or-else}
-use Rattle.local_search.specs.Route.{insertion-cost}
-use Rattle.local_search.specs.Feasible.{has-room}
+use Rattle.route_cost.specs.Route.{insertion-cost}
+use Rattle.route_load.specs.Feasible.{has-room}
 use Rattle.quick_test.specs.Quick.{Times, times}
 use Rattle.insertion.specs.Cheapest.{may-go-in}
 use Rattle.ejection.specs.declared.Ejection.{Ejection}

@@ -17,8 +17,8 @@ use Rattle.laws.specs.Loops.{loop, cond-rule, loop-rule}
 use Rattle.models.specs.Problem.{Problem, depot}
 use Rattle.plan.specs.Plan.{Plan, route}
 use Rattle.local_search.specs.Options.{Each, each-or-else}
-use Rattle.local_search.specs.Route.{insertion-cost}
-use Rattle.local_search.specs.Feasible.{has-room, feasible}
+use Rattle.route_cost.specs.Route.{insertion-cost}
+use Rattle.route_load.specs.Feasible.{has-room, feasible}
 use Rattle.quick_test.specs.Quick.{Times, times}
 use Rattle.insertion.specs.Cheapest.{may-go-in}
 use Rattle.insertion.specs.Inserted.{may-go-in-feasible}

@@ -13,7 +13,7 @@ use Rattle.models.specs.Problem.{Problem}
 use Rattle.plan.specs.Plan.{Plan, route, put-in, non-empty, occurs}
 use Rattle.plan.specs.Routes.{occurs-set, length-put-in, occurs-put-in, all-put-in}
 use Rattle.local_search.specs.Options.{Each, each-found}
-use Rattle.local_search.specs.Feasible.{feasible}
+use Rattle.route_load.specs.Feasible.{feasible}
 use Rattle.local_search.specs.Rounds.{Tried}
 use Rattle.local_search.specs.Reduced.{Bounded}
 use Rattle.insertion.specs.Cheapest.{cheapest}

@@ -11,7 +11,7 @@ use Rattle.models.specs.Problem.{Problem, Admitted}
 use Rattle.evaluation.specs.Check.{route-checks-needed}
 use Rattle.plan.specs.Plan.{Plan, Lent, split, put-in}
 use Rattle.local_search.specs.declared.rounds.Counts.{Counts}
-use Rattle.local_search.specs.declared.route.Insertion.{Insertion}
+use Rattle.route_cost.specs.declared.Insertion.{Insertion}
 use Rattle.local_search.specs.Planned.{Planned}
 use Rattle.ejection.specs.Asked.{Counted}
 use Rattle.ejection_made.specs.Made.{stack}

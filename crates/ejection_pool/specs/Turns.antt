@@ -12,7 +12,7 @@ use lib.Dec.{leb}
 use Rattle.laws.specs.Loops.{cond-rule}
 use Rattle.models.specs.Problem.{Problem}
 use Rattle.plan.specs.Plan.{put-in}
-use Rattle.local_search.specs.declared.route.Insertion.{Insertion}
+use Rattle.route_cost.specs.declared.Insertion.{Insertion}
 use Rattle.local_search.specs.declared.rounds.Counts.{Counts}
 use Rattle.local_search.specs.Rounds.{Tried}
 use Rattle.insertion.specs.Cheapest.{cheapest}

@@ -11,11 +11,11 @@ use borrow.Author.Needs.{needs}
 use Rattle.laws.specs.Loops.{loop, loop-same}
 use Rattle.models.specs.declared.vehicle.Vehicle.{Vehicle}
 use Rattle.models.specs.Problem.{DistanceMatrix, Problem, matrix, problem, of-demand, depot}
-use Rattle.local_search.specs.Route.{insertion-cost}
-use Rattle.local_search.specs.Feasible.{has-room}
+use Rattle.route_cost.specs.Route.{insertion-cost}
+use Rattle.route_load.specs.Feasible.{has-room}
 use Rattle.local_search.proofs.ReadLaws.{insertion-any, room-any}
 use Rattle.quick_test.specs.Quick.{Times, times as times-along}
-use Rattle.quick_test.specs.Prepared.{held, Prepared, prepared-missed, prepared-read, prepared-any}
+use Rattle.route_times.specs.Prepared.{held, Prepared, prepared-missed, prepared-read, prepared-any}
 use Rattle.insertion.specs.Pass.{may-pass}
 use Rattle.ejection.specs.declared.Ejection.{Ejection}
 use Rattle.ejection_positions.specs.declared.Out.{Out}

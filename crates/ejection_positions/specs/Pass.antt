@@ -10,8 +10,8 @@ use lib.ListN.{length}
 use Rattle.laws.specs.Loops.{loop-rule}
 use Rattle.laws.specs.Searches.{every, every-at}
 use Rattle.models.specs.Problem.{DistanceMatrix, Problem, depot}
-use Rattle.local_search.specs.Route.{insertion-cost}
-use Rattle.local_search.specs.Feasible.{constrained, has-room}
+use Rattle.route_cost.specs.Route.{insertion-cost}
+use Rattle.route_load.specs.Feasible.{constrained, has-room}
 use Rattle.quick_test.specs.Quick.{Times}
 use Rattle.insertion.specs.Pass.{may-pass, may-pass-room, may-go-in-untimed}
 use Rattle.ejection.specs.declared.Ejection.{Ejection}

@@ -8,17 +8,17 @@ ghost use Rattle.models.specs.Customer.{customers};
 ghost use Rattle.models.specs.RouteLimits.{limits-of};
 ghost use Rattle.models.specs.Problem.{matrix, problem, Fit, Stops, Admitted};
 ghost use Rattle.evaluation.specs.Check.{route-checks-needed};
-ghost use Rattle.quick_test.specs.Prepared.{held};
+ghost use Rattle.route_times.specs.Prepared.{held};
 ghost use Rattle.ejection.specs.Eject.{chosen, try-left};
 ghost use Rattle.ejection_positions.specs.Pass.{none-outranks, pass-in-kept};
 use ejection::Best;
 use ejection::Ejection;
 use ejection::outranks;
 use insertion::may_pass;
-use local_search::feasible::has_room;
-use local_search::route::insertion_cost;
 use models::vehicle::Vehicle;
-use quick_test::prepare;
+use route_cost::insertion_cost;
+use route_load::has_room;
+use route_times::prepare;
 
 // Who leaves: the sum of their failures, the route and their two places in it, the same one twice where one stop leaves.
 pub struct Out {

@@ -15,7 +15,7 @@ use Rattle.evaluation.specs.Check.{route-checks-needed}
 use Rattle.local_search.specs.Options.{or-else}
 use Rattle.plan.specs.Plan.{Plan, Lent, split, route}
 use Rattle.plan.specs.Slices.{length-split}
-use Rattle.local_search.proofs.VisitLaws.{Visiting, visit-start, part-is, part-stops, visit-more}
+use Rattle.route_cost.proofs.VisitLaws.{Visiting, visit-start, part-is, part-stops, visit-more}
 use Rattle.ejection.specs.declared.Ejection.{Ejection}
 use Rattle.ejection.specs.declared.Best.{Best}
 use Rattle.ejection.specs.declared.Best.the-variants.{Nothing, At}

@@ -14,7 +14,7 @@ use Rattle.models.specs.Vehicle.{fixed-cost-in-distance}
 use Rattle.models.specs.Problem.{Problem, problem}
 use Rattle.plan.specs.Plan.{Plan, split, route, offset, saved}
 use Rattle.local_search.specs.Options.{then-some}
-use Rattle.local_search.proofs.VisitLaws.{part-is}
+use Rattle.route_cost.proofs.VisitLaws.{part-is}
 use Rattle.reinsertion_worth.specs.Worth.{worth}
 use Rattle.elimination_moves.specs.Eliminate.{without-route}
 use Rattle.emptied_route.specs.Attempts.{Attempted, emptied, Accepted, Left}

@@ -8,7 +8,7 @@ ghost use Rattle.models.specs.Vehicle.{fixed-cost-in-distance};
 ghost use Rattle.models.specs.Problem.{matrix, problem};
 ghost use Rattle.plan.specs.Plan.{split, route};
 ghost use Rattle.local_search.specs.Options.{then-some};
-ghost use Rattle.local_search.specs.Route.{gain-floor};
+ghost use Rattle.route_cost.specs.Route.{gain-floor};
 ghost use Rattle.reinsertion_worth.specs.Worth.{worth};
 ghost use Rattle.elimination_moves.specs.Eliminate.{without-route};
 ghost use Rattle.emptied_route.specs.Attempts.{Attempted, emptied, fewer, Left};
@@ -16,8 +16,8 @@ use emptied_route::empty_route;
 use floats::is_finite;
 use models::vehicle::Vehicle;
 use plan::offset;
-use plan::restore;
-use plan::save;
+use route_removal::restore;
+use route_removal::save;
 use reinsertion_worth::worth;
 
 // What is saved where route r goes: its worth and its fixed cost.

@@ -14,9 +14,9 @@ use Rattle.models.specs.Vehicle.{fixed-cost-in-distance}
 use Rattle.models.specs.Problem.{Problem}
 use Rattle.plan.specs.Plan.{Plan, route, put-in}
 use Rattle.local_search.specs.Options.{bind, then-some}
-use Rattle.local_search.specs.declared.route.Insertion.{Insertion}
-use Rattle.local_search.specs.Route.{gain-floor}
-use Rattle.local_search.specs.Feasible.{demand-at}
+use Rattle.route_cost.specs.declared.Insertion.{Insertion}
+use Rattle.route_cost.specs.Route.{gain-floor}
+use Rattle.route_load.specs.Feasible.{demand-at}
 use Rattle.local_search.specs.declared.rounds.Counts.{Counts}
 use Rattle.local_search.specs.Rounds.{Tried, reduce}
 use Rattle.reinsertion_worth.specs.Worth.{worth}

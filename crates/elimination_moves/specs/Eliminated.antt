@@ -21,9 +21,9 @@ use Rattle.plan.specs.Plan.{Plan, route, non-empty, drop-empty, occurs}
 use Rattle.plan.specs.Routes.{length-put-in, occurs-put-in, all-put-in, occurs-erase}
 use Rattle.plan.specs.Dropped.{occurs-drop-empty}
 use Rattle.local_search.specs.Options.{bind, Each, each-then-some, each-bind}
-use Rattle.local_search.specs.declared.route.Insertion.{Insertion}
-use Rattle.local_search.specs.Feasible.{has-room, checked, feasible}
-use Rattle.local_search.specs.RouteLaws.{has-room-fits}
+use Rattle.route_cost.specs.declared.Insertion.{Insertion}
+use Rattle.route_load.specs.Feasible.{has-room, checked, feasible}
+use Rattle.route_load.specs.RouteLaws.{has-room-fits}
 use Rattle.local_search.specs.declared.rounds.Counts.{Counts}
 use Rattle.local_search.specs.Rounds.{reduce}
 use Rattle.local_search.specs.Reduced.{Better, Reduces, reduces-fewer, triangle, Ended, reduce-ended}

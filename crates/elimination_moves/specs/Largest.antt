@@ -11,7 +11,7 @@ use Rattle.laws.specs.Edits.{erase}
 use Rattle.laws.specs.Loops.{loop}
 use Rattle.laws.specs.Sorts.{least-at, smallest, sort-by}
 use Rattle.models.specs.Problem.{Problem}
-use Rattle.local_search.specs.Feasible.{demand-at}
+use Rattle.route_load.specs.Feasible.{demand-at}
 use Rattle.elimination_moves.specs.Eliminate.{moving}
 
 -- the demand of c is larger than that of d

@@ -7,12 +7,12 @@ use mathlib.Core.Option.{Option, none, some}
 use native.Mathlib.Omega.{arith}
 use lib.ListN.{length, take}
 use Rattle.models.specs.Problem.{Problem}
-use Rattle.plan.specs.declared.order.Pick.{Pick}
-use Rattle.plan.specs.declared.order.Pick.the-variants.{At}
+use Rattle.route_order.specs.declared.Pick.{Pick}
+use Rattle.route_order.specs.declared.Pick.the-variants.{At}
 use Rattle.plan.specs.Plan.{Plan, split, total}
-use Rattle.plan.specs.Order.{next-pick, following}
+use Rattle.route_order.specs.Order.{next-pick, following}
 use Rattle.local_search.specs.Options.{then-some}
-use Rattle.local_search.specs.Feasible.{constrained}
+use Rattle.route_load.specs.Feasible.{constrained}
 use Rattle.local_search.specs.Rounds.{Tried, try-each}
 use Rattle.local_search.specs.Search.{Ends-with-0, but-last, Refused, Taken, uncounted}
 use Rattle.local_search.proofs.NextLaws.{pick-there, next-kept, next-refused, next-accepted, next-taken}

@@ -3,9 +3,9 @@
 ghost use mathlib.Core.Path.{_≡_};
 ghost use Rattle.models.specs.Problem.{matrix, problem};
 ghost use Rattle.plan.specs.Plan.{split};
-ghost use Rattle.plan.specs.Order.{following};
-ghost use Rattle.local_search.specs.Feasible.{constrained};
-ghost use Rattle.local_search.specs.Route.{gain-floor};
+ghost use Rattle.route_order.specs.Order.{following};
+ghost use Rattle.route_load.specs.Feasible.{constrained};
+ghost use Rattle.route_cost.specs.Route.{gain-floor};
 ghost use Rattle.local_search.specs.Rounds.{try-each};
 ghost use Rattle.local_search.specs.Search.{but-last, tried-next, Next-leaves, uncounted};
 ghost use Rattle.reinsertion_worth.specs.Worth.{soft as soft-in};
@@ -15,8 +15,8 @@ use elimination_attempt::without_route;
 use local_search::rounds::Counts;
 use local_search::rounds::Next;
 use models::vehicle::Vehicle;
-use plan::order::Pick;
-use plan::order::next_pick;
+use route_order::Pick;
+use route_order::next_pick;
 
 // The attempt at the route that comes next after the last pick. It counts nothing.
 pub fn try_next(

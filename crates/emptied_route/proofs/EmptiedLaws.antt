@@ -16,9 +16,9 @@ use Rattle.models.specs.Problem.{Problem, Stops}
 use Rattle.plan.specs.Plan.{Plan, Holds, Lent, split, route, total, offset}
 use Rattle.plan.specs.Slices.{flat-split, route-split, route-within, length-split, length-route, total-erase}
 use Rattle.local_search.specs.Options.{bind, then-some}
-use Rattle.local_search.specs.Route.{gain-floor}
+use Rattle.route_cost.specs.Route.{gain-floor}
 use Rattle.local_search.specs.Planned.{planned-stops}
-use Rattle.local_search.proofs.VisitLaws.{Visiting}
+use Rattle.route_cost.proofs.VisitLaws.{Visiting}
 use Rattle.elimination_moves.specs.Eliminate.{Moved, moving, move-all, if-gained}
 use Rattle.stop_moves.specs.declared.Sum.{Sum}
 use Rattle.stop_moves.specs.declared.Sum.the-variants.{Nothing, At}

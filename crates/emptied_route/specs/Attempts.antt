@@ -10,7 +10,7 @@ use Rattle.laws.specs.Edits.{erase}
 use Rattle.models.specs.Problem.{Problem, Admitted}
 use Rattle.plan.specs.Plan.{Plan, Lent, split, route, total}
 use Rattle.local_search.specs.Options.{bind}
-use Rattle.local_search.specs.Feasible.{constrained}
+use Rattle.route_load.specs.Feasible.{constrained}
 use Rattle.local_search.specs.Planned.{Planned}
 use Rattle.reinsertion_worth.specs.Worth.{soft}
 use Rattle.elimination_moves.specs.Eliminate.{moving, move-all, if-gained}

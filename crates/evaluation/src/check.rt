@@ -8,16 +8,16 @@ ghost use Rattle.models.specs.Problem.{matrix, Square, Fit, Stops};
 ghost use Rattle.evaluation.specs.Check.{soft, has-time-windows, has-soft-windows, route-checks-needed, set-out, departure, reach, reach-all, home-allowed, route-feasible};
 use crate::eval::is_feasible;
 use crate::eval::limited;
-use break_clock::schedule::schedule;
+use break_schedule::schedule;
 use distance::get;
 use distance::travel_time;
 use models::customer::Customer;
 use models::customer::Penalty;
 use models::customer::Window;
-use models::customer::customer_at;
 use models::limits::RouteLimits;
 use models::vehicle::Rest;
 use models::vehicle::VehicleBreak;
+use place_record::customer_at;
 
 // Whether a place's flags say that it has a window.
 fn is_windowed(flag: u8) -> bool

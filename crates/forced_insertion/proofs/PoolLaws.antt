@@ -14,12 +14,12 @@ use Rattle.laws.specs.Counts.{count, one-if, same-length}
 use Rattle.models.specs.Problem.{Problem, Stops}
 use Rattle.plan.specs.Plan.{Plan, Holds, Lent, Has-position, split, flat, total, route, occurs, put-in}
 use Rattle.plan.specs.Slices.{total-lengths, lengths-split}
-use Rattle.local_search.specs.declared.route.Insertion.{Insertion}
-use Rattle.local_search.specs.declared.route.Best.{Best}
-use Rattle.local_search.specs.declared.route.Best.the-variants.{Nothing, At}
+use Rattle.route_cost.specs.declared.Insertion.{Insertion}
+use Rattle.route_cost.specs.declared.Best.{Best}
+use Rattle.route_cost.specs.declared.Best.the-variants.{Nothing, At}
 use Rattle.local_search.specs.declared.rounds.Counts.{Counts}
 use Rattle.local_search.specs.Options.{Each, each-found}
-use Rattle.local_search.specs.Route.{chosen}
+use Rattle.route_cost.specs.Route.{chosen}
 use Rattle.local_search.specs.Planned.{Planned, planned-stops}
 use Rattle.insertion.specs.Cheapest.{cheapest}
 use Rattle.insertion.specs.Inserted.{Inserts, cheapest-found}

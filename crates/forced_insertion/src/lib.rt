@@ -17,9 +17,9 @@ ghost use Rattle.forced_insertion.specs.Turned.{as-turn};
 use ejection::Best as Ejected;
 use ejection_made::make_room;
 use ejection_search::eject;
-use insertion::cheapest;
+use cheapest_insertion::cheapest;
 use local_search::rounds::Counts;
-use local_search::route::Best;
+use route_cost::Best;
 use models::vehicle::Vehicle;
 use random_moves::perturb;
 

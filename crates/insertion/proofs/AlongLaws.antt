@@ -12,7 +12,7 @@ use mir.Val.{Fits}
 use borrow.Author.Needs.{needs}
 use Rattle.laws.specs.Loops.{loop, loop-none, loop-more, loop-end}
 use Rattle.models.specs.Problem.{Problem, Fit, Stops, depot}
-use Rattle.local_search.specs.Feasible.{constrained}
+use Rattle.route_load.specs.Feasible.{constrained}
 
 -- what the positions before pos leave of the best so far
 pub record Along (p : Problem) (c : ℕ) (r : List ℕ) (cells : List Float) (needed : Bool) {S : Type 0} (f : ℕ → S → S) (first found : S) (pos : ℕ) : Type 0 where

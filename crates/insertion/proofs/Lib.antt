@@ -5,7 +5,3 @@ pub mod PassLaws
 pub mod AlongLaws
 -- one position of a route
 pub mod PositionLaws
--- one route
-pub mod RouteLaws
--- the routes of a plan
-pub mod PlanLaws

@@ -9,7 +9,7 @@ use lib.Ieee.{Float}
 use Rattle.laws.specs.Edits.{insert-at}
 use Rattle.models.specs.Customer.{Customers}
 use Rattle.models.specs.Problem.{DistanceMatrix, Problem, Stops, depot}
-use Rattle.local_search.specs.Feasible.{constrained, checked}
+use Rattle.route_load.specs.Feasible.{constrained, checked}
 use Rattle.quick_test.specs.Quick.{may-fit, Times}
 use Rattle.insertion.specs.Pass.{may-pass}
 

@@ -7,10 +7,10 @@ use mathlib.Core.Option.{Option, some}
 use lib.Ieee.{Float, le}
 use borrow.Author.Needs.{needs}
 use Rattle.models.specs.Problem.{Problem, depot}
-use Rattle.local_search.specs.declared.route.Insertion.{Insertion}
-use Rattle.local_search.specs.declared.route.Best.{Best}
-use Rattle.local_search.specs.declared.route.Best.the-variants.{At}
-use Rattle.local_search.specs.Route.{insertion-cost, chosen}
+use Rattle.route_cost.specs.declared.Insertion.{Insertion}
+use Rattle.route_cost.specs.declared.Best.{Best}
+use Rattle.route_cost.specs.declared.Best.the-variants.{At}
+use Rattle.route_cost.specs.Route.{insertion-cost, chosen}
 use Rattle.local_search.proofs.ReadLaws.{insertion-any}
 use Rattle.quick_test.specs.Quick.{Times}
 use Rattle.insertion.specs.Cheapest.{cheaper}

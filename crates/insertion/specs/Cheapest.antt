@@ -9,9 +9,9 @@ use Rattle.laws.specs.Edits.{insert-at}
 use Rattle.laws.specs.Loops.{loop}
 use Rattle.models.specs.Problem.{Problem, depot}
 use Rattle.plan.specs.Plan.{Plan, route}
-use Rattle.local_search.specs.declared.route.Insertion.{Insertion}
-use Rattle.local_search.specs.Route.{insertion-cost}
-use Rattle.local_search.specs.Feasible.{constrained, has-room, feasible}
+use Rattle.route_cost.specs.declared.Insertion.{Insertion}
+use Rattle.route_cost.specs.Route.{insertion-cost}
+use Rattle.route_load.specs.Feasible.{constrained, has-room, feasible}
 use Rattle.quick_test.specs.Quick.{may-fit, Times, times}
 
 -- c may go into the route at pos: "the quick test and the full check"

@@ -12,9 +12,9 @@ use Rattle.laws.specs.Searches.{and-second}
 use Rattle.models.specs.Problem.{Problem, depot}
 use Rattle.plan.specs.Plan.{Plan, route, non-empty}
 use Rattle.local_search.specs.Options.{Each}
-use Rattle.local_search.specs.declared.route.Insertion.{Insertion}
-use Rattle.local_search.specs.Route.{insertion-cost}
-use Rattle.local_search.specs.Feasible.{constrained, has-room, feasible}
+use Rattle.route_cost.specs.declared.Insertion.{Insertion}
+use Rattle.route_cost.specs.Route.{insertion-cost}
+use Rattle.route_load.specs.Feasible.{constrained, has-room, feasible}
 use Rattle.quick_test.specs.Quick.{may-fit, Times, times}
 use Rattle.insertion.specs.Cheapest.{may-go-in, cheaper, try-position, try-positions, try-route, cheapest}
 

@@ -9,10 +9,10 @@ use lib.Ieee.{Float}
 use Rattle.laws.specs.Edits.{insert-at}
 use Rattle.models.specs.declared.vehicle.Vehicle.{Vehicle}
 use Rattle.models.specs.Problem.{Problem, problem, depot}
-use Rattle.local_search.specs.declared.route.Insertion.{Insertion}
-use Rattle.local_search.specs.Route.{insertion-cost}
-use Rattle.local_search.specs.Feasible.{constrained, has-room, checked}
-use Rattle.local_search.proofs.FeasibleLaws.{trial-within}
+use Rattle.route_cost.specs.declared.Insertion.{Insertion}
+use Rattle.route_cost.specs.Route.{insertion-cost}
+use Rattle.route_load.specs.Feasible.{constrained, has-room, checked}
+use Rattle.route_load.proofs.FeasibleLaws.{trial-within}
 use Rattle.quick_test.specs.Quick.{may-fit, Times}
 use Rattle.insertion.specs.Cheapest.{may-go-in, cheaper, try-position}
 

@@ -12,8 +12,8 @@ use evaluation::check::has_soft_windows;
 use floats::max;
 use models::customer::Penalty;
 use models::customer::Window;
-use models::customer::penalty_at;
-use models::customer::window_at;
+use place_record::penalty_at;
+use place_record::window_at;
 
 // The larger of `most` and both ends of a window, if there is one.
 fn with_window(most: f64, window: Window) -> f64

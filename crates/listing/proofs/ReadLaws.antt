@@ -6,7 +6,7 @@ use mathlib.Core.List.{List, [], _∷_}
 use Rattle.models.specs.Problem.{Problem, depot}
 use Rattle.plan.specs.Plan.{Plan}
 use Rattle.local_search.specs.declared.rounds.Counts.{Counts}
-use Rattle.local_search.specs.Route.{route-distance}
+use Rattle.route_cost.specs.Route.{route-distance}
 use Rattle.local_search.proofs.ReadLaws.{distance-any}
 use Rattle.listing.specs.Listing.{of-listing, Prints, route-lines, listing}
 

@@ -14,8 +14,8 @@ use Rattle.models.specs.Problem.{Problem, problem, depot}
 use Rattle.laws.specs.Loops.{foldl}
 use Rattle.plan.specs.Plan.{Plan}
 use Rattle.local_search.specs.declared.rounds.Counts.{Counts}
-use Rattle.local_search.specs.Route.{legs, route-distance}
-use Rattle.local_search.specs.Feasible.{load}
+use Rattle.route_cost.specs.Route.{legs, route-distance}
+use Rattle.route_load.specs.Feasible.{load}
 use Rattle.sheet_text.specs.Text.{bytes}
 use Rattle.listing.specs.Decimal.{text, digits, decimal, signed}
 

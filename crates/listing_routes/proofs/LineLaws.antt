@@ -19,10 +19,10 @@ use Rattle.models.specs.Problem.{Problem, matrix, Stops, Demands}
 use Rattle.plan.specs.Plan.{Plan, Lent, split, route}
 use Rattle.plan.specs.Slices.{length-split, offset-within}
 use Rattle.local_search.specs.declared.rounds.Counts.{Counts}
-use Rattle.local_search.specs.Route.{route-distance}
-use Rattle.local_search.specs.Feasible.{load}
-use Rattle.local_search.proofs.FeasibleLaws.{demands-own, stops-own, load-small}
-use Rattle.local_search.proofs.VisitLaws.{Visiting, visit-start, part-is, part-stops, visit-more}
+use Rattle.route_cost.specs.Route.{route-distance}
+use Rattle.route_load.specs.Feasible.{load}
+use Rattle.route_load.proofs.FeasibleLaws.{demands-own, stops-own, load-small}
+use Rattle.route_cost.proofs.VisitLaws.{Visiting, visit-start, part-is, part-stops, visit-more}
 use Rattle.listing.specs.Decimal.{text}
 use Rattle.listing.specs.Listing.{whole, of-listing, Prints, route-line, line-of, route-lines, first-line, last-line, listing}
 use Rattle.listing.specs.Written.{Room, Written}

@@ -10,9 +10,9 @@ ghost use Rattle.listing.specs.Written.{Room, Written};
 use listing_lines::put_first_line;
 use listing_lines::put_last_line;
 use listing_lines::put_route_line;
-use local_search::feasible::load;
+use route_load::load;
 use local_search::rounds::Counts;
-use local_search::route::route_distance;
+use route_cost::route_distance;
 use models::vehicle::Vehicle;
 
 // The line of a route, with its load and its distance.

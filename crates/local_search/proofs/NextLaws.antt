@@ -11,11 +11,11 @@ use lib.ListN.{length, take}
 use lib.Dec.{eqb}
 use Rattle.laws.specs.Counts.{same-length}
 use Rattle.laws.specs.Keeps.{length-keep}
-use Rattle.plan.specs.declared.order.Pick.{Pick}
-use Rattle.plan.specs.declared.order.Pick.the-variants.{Nothing, At}
+use Rattle.route_order.specs.declared.Pick.{Pick}
+use Rattle.route_order.specs.declared.Pick.the-variants.{Nothing, At}
 use Rattle.plan.specs.Plan.{Plan, Lent, split, flat, total, padded, drop-zero, drop-empty}
-use Rattle.plan.specs.Order.{next-pick, following}
-use Rattle.plan.specs.Following.{following-at, following-nothing, next-pick-inside}
+use Rattle.route_order.specs.Order.{next-pick, following}
+use Rattle.route_order.specs.Following.{following-at, following-nothing, next-pick-inside}
 use Rattle.plan.specs.Slices.{length-split, flat-split-all, lengths-split, total-lengths}
 use Rattle.plan.specs.Dropped.{length-padded, take-padded, total-drop-zero, drop-empty-slices, flat-drop-empty, occurs-drop-empty}
 use Rattle.local_search.specs.declared.rounds.Counts.{Counts}

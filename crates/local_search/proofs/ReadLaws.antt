@@ -13,8 +13,8 @@ use Rattle.models.specs.Vehicle.{fixed-cost-in-distance}
 use Rattle.models.specs.Problem.{matrix, problem, of-demand, of-distances}
 use Rattle.distance.specs.Matrix.{cell}
 use Rattle.plan.specs.Plan.{Plan}
-use Rattle.local_search.specs.Route.{legs, route-distance, insertion-cost, cost}
-use Rattle.local_search.specs.Feasible.{has-room}
+use Rattle.route_cost.specs.Route.{legs, route-distance, insertion-cost, cost}
+use Rattle.route_load.specs.Feasible.{has-room}
 
 module _ (n : ℕ) (distances times : List Float) (depot : ℕ) where
   legs-same : (dist : Float) (prev : ℕ) (r : List ℕ) → legs (matrix n distances []) depot dist prev r ≡ legs (matrix n distances times) depot dist prev r

@@ -11,11 +11,11 @@ use lib.Seq.{drop-at, length-take-le}
 use Rattle.laws.specs.Keeps.{keep}
 use Rattle.laws.specs.Sorts.{range, smallest, sort-by, length-sort-by, length-range}
 use Rattle.laws.specs.Counts.{count as count-of}
-use Rattle.plan.specs.declared.order.Pick.{Pick}
-use Rattle.plan.specs.declared.order.Pick.the-variants.{Nothing}
+use Rattle.route_order.specs.declared.Pick.{Pick}
+use Rattle.route_order.specs.declared.Pick.the-variants.{Nothing}
 use Rattle.plan.specs.Plan.{Plan, Lent, split, flat, lengths-of, total, padded, drop-zero, drop-empty}
-use Rattle.plan.specs.Order.{order, following}
-use Rattle.plan.specs.Following.{following-all}
+use Rattle.route_order.specs.Order.{order, following}
+use Rattle.route_order.specs.Following.{following-all}
 use Rattle.plan.specs.Slices.{length-split, lengths-split, flat-split-all}
 use Rattle.plan.specs.Dropped.{total-padded, total-drop-zero, drop-zero-padded, split-padded, drop-empty-padded}
 use Rattle.local_search.specs.declared.rounds.Counts.{Counts}

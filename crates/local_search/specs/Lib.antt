@@ -1,14 +1,8 @@
 -- What both route searches share. A file uses only files above it in this list.
 -- `Option` as a search's answer
 pub mod Options
--- the distance of a route, an insertion, the cost of a plan
-pub mod Route
--- the load and the check of a route
-pub mod Feasible
 -- the rounds of attempts
 pub mod Rounds
--- loads, and the check where it is not needed
-pub mod RouteLaws
 -- a plan over n places
 pub mod Planned
 -- a rule of proof for the attempts of a round, and one for the rounds

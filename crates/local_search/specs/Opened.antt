@@ -14,8 +14,8 @@ use Rattle.evaluation.specs.Eval.{drive, home, route-eval, effective-cost}
 use Rattle.evaluation.specs.Check.{has-time-windows, has-soft-windows, departure, reach, home-allowed, route-feasible}
 use Rattle.plan.specs.Plan.{split, flat, total, padded, put-in, take-out, exchange-stops, exchange-tails, non-empty}
 use Rattle.local_search.specs.Options.{bind, then-some, or-else}
-use Rattle.local_search.specs.Route.{legs, route-distance, insertion-cost, cost}
-use Rattle.local_search.specs.Feasible.{load, has-room, feasible}
+use Rattle.route_cost.specs.Route.{legs, route-distance, insertion-cost, cost}
+use Rattle.route_load.specs.Feasible.{load, has-room, feasible}
 use Rattle.local_search.specs.Rounds.{or-next, try-each, or-end, rounds, reduce}
 
 -- Every definition, for a theorem that is computed: `unfolding opened`.

@@ -12,7 +12,7 @@ use Rattle.laws.specs.All.{All, all-cons}
 use Rattle.laws.specs.Keeps.{length-keep, all-keep}
 use Rattle.laws.specs.Sorts.{range, smallest, sort-by, all-range, all-sort-by, length-range, length-sort-by}
 use Rattle.plan.specs.Plan.{Plan, lengths-of, non-empty, drop-empty, occurs}
-use Rattle.plan.specs.Order.{order}
+use Rattle.route_order.specs.Order.{order}
 use Rattle.plan.specs.Dropped.{occurs-drop-empty}
 use Rattle.local_search.specs.Options.{Each, each-found, each-map}
 use Rattle.local_search.specs.declared.rounds.Counts.{Counts}

@@ -4,7 +4,7 @@ use mathlib.Core.List.{List, [], _∷_}
 use mathlib.Core.Option.{Option, none, some}
 use lib.ListN.{length}
 use Rattle.plan.specs.Plan.{Plan, lengths-of, drop-empty}
-use Rattle.plan.specs.Order.{order}
+use Rattle.route_order.specs.Order.{order}
 use Rattle.local_search.specs.declared.rounds.Counts.{Counts}
 
 -- `Counts` says: "Steps are the pops counted; draws are the words taken, one taken again counted again."

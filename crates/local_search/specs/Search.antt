@@ -5,9 +5,9 @@ use mathlib.Core.Path.{_≡_}
 use mathlib.Core.List.{List, [], _∷_, _++_}
 use mathlib.Core.Option.{none, some}
 use lib.ListN.{length, take}
-use Rattle.plan.specs.declared.order.Pick.{Pick}
+use Rattle.route_order.specs.declared.Pick.{Pick}
 use Rattle.plan.specs.Plan.{Plan, Slices, Lent, split, total, written}
-use Rattle.plan.specs.Order.{following}
+use Rattle.route_order.specs.Order.{following}
 use Rattle.local_search.specs.declared.rounds.Counts.{Counts}
 use Rattle.local_search.specs.declared.rounds.Next.{Next}
 use Rattle.local_search.specs.declared.rounds.Next.the-variants.{End, Kept, Accepted}

@@ -1,59 +1,20 @@
-// The load of a route and its check: whether it is feasible.
+// The check of a route where it is needed, and whether a route is feasible.
 ghost use mathlib.Core.Path.{_≡_};
 ghost use mathlib.Core.List.{[]};
 ghost use Prim.Native.Nat.{_<_, _≤_};
 ghost use lib.ListN.{length};
-ghost use lib.IntN.{natAbs, _+ℤ_};
 ghost use Rattle.laws.specs.Edits.{insert-at};
 ghost use Rattle.models.specs.Customer.{customers};
 ghost use Rattle.models.specs.RouteLimits.{limits-of};
-ghost use Rattle.models.specs.Problem.{matrix, problem, of-demand, Fit, Stops, Demands};
+ghost use Rattle.models.specs.Problem.{matrix, problem, Fit, Stops, Demands};
 ghost use Rattle.evaluation.specs.Check.{route-checks-needed};
-ghost use Rattle.local_search.specs.Feasible.{demand-at, load, fits, has-room, checked, feasible};
+ghost use Rattle.route_load.specs.Feasible.{checked, feasible};
 use evaluation::check::route_checks_needed;
 use evaluation::check::route_feasible;
 use models::limits::RouteLimits;
 use models::vehicle::Vehicle;
+use route_load::within_capacity;
 use trial_route::trial_feasible;
-
-// The sum of the demands of a route.
-pub fn load(route: &[u16], demand: &[i32]) -> i32
-    requires { ⌜ Demands (length (now demand)) (now demand) × Stops (length (now demand)) (now route) ⌝ }
-    ensures { λ r. ⌜ r ≡ load (now (demand .entry)) (now (route .entry)) ⌝ }
-{
-    let mut sum = 0;
-    let mut i = 0;
-    while i < route.len() {
-        let c = route[i] as usize;
-        sum = sum + demand[c];
-        i += 1;
-    }
-    sum
-}
-
-// Whether a route's load and the demand of c are within capacity together.
-pub fn has_room_for(sum: i32, c: usize, demand: &[i32], vehicle: Vehicle) -> bool
-    requires { ⌜ Demands (length (now demand)) (now demand) × (c < length (now demand)) × (natAbs sum ≤ 256_000_000) ⌝ }
-    ensures { λ r. ⌜ r ≡ fits (of-demand (now (demand .entry)) vehicle) (sum +ℤ demand-at (now (demand .entry)) c) ⌝ }
-{
-    sum + demand[c] <= vehicle.capacity
-}
-
-// Whether a route has room for c.
-pub fn has_room(route: &[u16], c: usize, demand: &[i32], vehicle: Vehicle) -> bool
-    requires { ⌜ Demands (length (now demand)) (now demand) × Stops (length (now demand)) (now route) × (c < length (now demand)) ⌝ }
-    ensures { λ r. ⌜ r ≡ has-room (of-demand (now (demand .entry)) vehicle) (now (route .entry)) c ⌝ }
-{
-    has_room_for(load(route, demand), c, demand, vehicle)
-}
-
-// Whether a route's load is within capacity.
-pub fn within_capacity(route: &[u16], demand: &[i32], vehicle: Vehicle) -> bool
-    requires { ⌜ Demands (length (now demand)) (now demand) × Stops (length (now demand)) (now route) ⌝ }
-    ensures { λ r. ⌜ r ≡ fits (of-demand (now (demand .entry)) vehicle) (load (now (demand .entry)) (now (route .entry))) ⌝ }
-{
-    load(route, demand) <= vehicle.capacity
-}
 
 // Whether the route check is needed. A search asks this once.
 pub fn constrained(flags: &[u8], vehicle: Vehicle) -> bool

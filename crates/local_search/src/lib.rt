@@ -1,5 +1,4 @@
-// What the two route searches share (local_search/mod.rs and the helpers of both): the distance, load and check of a route, and the cost of a plan.
-// The definitions and their laws are in specs/; the rounds of attempts are there too.
+// What the two route searches share (local_search/mod.rs and the helpers of both): whether a route is feasible, and the rounds of attempts, whose
+// definitions and laws are in specs/.
 pub mod feasible;
 pub mod rounds;
-pub mod route;

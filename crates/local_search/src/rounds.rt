@@ -1,5 +1,5 @@
 // What the rounds of both searches answer: of one attempt, and of the call.
-use plan::order::Pick;
+use route_order::Pick;
 
 // The pops counted and the words taken, of a call so far.
 pub struct Counts {

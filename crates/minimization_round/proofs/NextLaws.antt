@@ -6,13 +6,13 @@ use mathlib.Core.Option.{some}
 use lib.ListN.{length, take}
 use lib.Ieee.{Float}
 use Rattle.models.specs.Problem.{Problem, of-distances}
-use Rattle.plan.specs.declared.order.Pick.{Pick}
-use Rattle.plan.specs.declared.order.Pick.the-variants.{At}
+use Rattle.route_order.specs.declared.Pick.{Pick}
+use Rattle.route_order.specs.declared.Pick.the-variants.{At}
 use Rattle.plan.specs.Plan.{split, total, padded, drop-zero}
-use Rattle.plan.specs.Order.{next-pick, following}
+use Rattle.route_order.specs.Order.{next-pick, following}
 use Rattle.local_search.specs.declared.rounds.Counts.{Counts}
 use Rattle.local_search.specs.Planned.{Planned}
-use Rattle.local_search.specs.Route.{cost}
+use Rattle.route_cost.specs.Route.{cost}
 use Rattle.local_search.specs.Rounds.{Tried, try-each}
 use Rattle.local_search.specs.Search.{Refused, Taken, but-last}
 use Rattle.local_search.proofs.NextLaws.{in-use, next-kept, next-refused, next-accepted, next-taken}

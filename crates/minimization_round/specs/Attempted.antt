@@ -12,8 +12,8 @@ use Rattle.models.specs.Problem.{Problem}
 use Rattle.plan.specs.Plan.{Plan, route, non-empty}
 use Rattle.plan.specs.Routes.{occurs-erase}
 use Rattle.local_search.specs.Options.{Each, each-then-some, each-bind}
-use Rattle.local_search.specs.Route.{cost}
-use Rattle.local_search.specs.Feasible.{feasible}
+use Rattle.route_cost.specs.Route.{cost}
+use Rattle.route_load.specs.Feasible.{feasible}
 use Rattle.local_search.specs.declared.rounds.Counts.{Counts}
 use Rattle.local_search.specs.Reduced.{Better, Bounded, Reduces, reduces-fewer}
 use Rattle.ejection_pool.specs.Pool.{Allowance, empty-into}

@@ -16,7 +16,7 @@ use Rattle.laws.specs.Searches.{and-first, and-second}
 use Rattle.models.specs.Problem.{Problem}
 use Rattle.plan.specs.Plan.{Plan, route, exchange-stops, exchange-tails, non-empty, occurs}
 use Rattle.plan.specs.Exchanges.{length-exchange-stops, all-exchange-stops, occurs-exchange-stops, first-exchange-stops, second-exchange-stops, length-exchange-tails, all-exchange-tails, occurs-exchange-tails, first-exchange-tails, second-exchange-tails}
-use Rattle.local_search.specs.Feasible.{feasible}
+use Rattle.route_load.specs.Feasible.{feasible}
 use Rattle.perturbation.specs.Perturb.{word, draw, draw-bool, stands, both-non-empty, try-exchange, try-tails, try-move, Drawn, move-between, other-than, move, perturb}
 
 -- ---- what a move keeps

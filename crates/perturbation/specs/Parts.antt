@@ -6,7 +6,7 @@ use mathlib.Core.Bool.{Bool, _&&_}
 use lib.ListN.{length, take, drop}
 use Rattle.models.specs.Problem.{Problem}
 use Rattle.plan.specs.Plan.{Plan, Lent, split, route, non-empty}
-use Rattle.local_search.specs.Feasible.{feasible}
+use Rattle.route_load.specs.Feasible.{feasible}
 use Rattle.local_search.specs.Planned.{Planned}
 use Rattle.perturbation.specs.Perturb.{draw, try-exchange, try-tails}
 

@@ -7,7 +7,7 @@ use lib.Dec.{leb, ltb, eqb}
 use Rattle.laws.specs.Loops.{loop}
 use Rattle.models.specs.Problem.{Problem}
 use Rattle.plan.specs.Plan.{Plan, route, exchange-stops, exchange-tails, non-empty}
-use Rattle.local_search.specs.Feasible.{feasible}
+use Rattle.route_load.specs.Feasible.{feasible}
 
 -- ---- draws
 

@@ -1,7 +1,3 @@
 -- Laws that this crate's proofs cite.
--- where a route lies, and the edits of the two slices
+-- where a route lies, and a stop put in or taken out
 pub mod PlanLaws
--- a route taken out, empty routes dropped, and the plan kept in work cells
-pub mod RestLaws
--- picks in the order by length
-pub mod OrderLaws

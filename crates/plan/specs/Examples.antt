@@ -4,11 +4,7 @@ use mathlib.Core.List.{[], _∷_}
 use Rattle.laws.specs.Edits.{insert-at, erase}
 use Rattle.laws.specs.Keeps.{keep}
 use Rattle.laws.specs.Counts.{count, one-if}
-use Rattle.laws.specs.Loops.{loop}
-use Rattle.laws.specs.Sorts.{range, least-at, smallest, sort-by}
-use Rattle.plan.specs.declared.order.Pick.the-variants.{At}
 use Rattle.plan.specs.Plan.{Plan, split, flat, lengths-of, padded, put-in, take-out, exchange-stops, exchange-tails, non-empty, drop-empty, occurs}
-use Rattle.plan.specs.Order.{order, is-after, shorter, considered, next-pick}
 
 -- three routes, the second of them empty
 abbrev three : Plan
@@ -52,13 +48,3 @@ padded-three = refl
 occurs-three : occurs 8 three ≡ 1
 unfolding count one-if flat
 occurs-three = refl
-
--- the shortest first, and of equals the earlier one
-order-four : order (3 ∷ 1 ∷ 2 ∷ 1 ∷ []) ≡ 1 ∷ 3 ∷ 2 ∷ 0 ∷ []
-unfolding sort-by smallest least-at loop erase range
-order-four = refl
-
--- after the pick of route 1 comes route 3, of the same length
-next-pick-four : next-pick (3 ∷ 1 ∷ 2 ∷ 1 ∷ []) (At 1 1) ≡ At 3 1
-unfolding next-pick considered is-after shorter loop
-next-pick-four = refl

@@ -1,7 +1,5 @@
--- What a plan is, in Plan and Order, and laws about it in the other files, one subject a file. A file uses only files above it in this list.
+-- What a plan is, in Plan, and laws about it in the other files, one subject a file. A file uses only files above it in this list.
 pub mod Plan
--- the routes by length, and the pick that comes next
-pub mod Order
 -- the definitions computed on small plans
 pub mod Examples
 -- the two slices and the list of routes are one
@@ -12,7 +10,5 @@ pub mod Routes
 pub mod Exchanges
 -- empty routes dropped, and the slices that a call leaves
 pub mod Dropped
--- repeated picks are the order
-pub mod Following
 -- a plan kept in work cells
 pub mod Saved

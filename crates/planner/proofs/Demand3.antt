@@ -17,8 +17,8 @@ use Rattle.models.specs.Problem.{Problem}
 use Rattle.plan.specs.Plan.{Plan, Slices, flat, lengths-of, padded, written, non-empty, drop-empty, occurs}
 use Rattle.plan.specs.Slices.{length-split, flat-split-all}
 use Rattle.plan.specs.Dropped.{length-padded, drop-empty-padded, split-written, total-written}
-use Rattle.local_search.specs.Feasible.{Sound}
-use Rattle.local_search.specs.RouteLaws.{feasible-sound}
+use Rattle.route_load.specs.Feasible.{Sound}
+use Rattle.route_load.specs.RouteLaws.{feasible-sound}
 use Rattle.local_search.specs.Rounds.{Result}
 use Rattle.local_search.specs.Reduced.{triangle, triangle-is, triangle-mono}
 use Rattle.ejection_pool.specs.Pool.{Allowance}

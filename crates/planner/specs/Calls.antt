@@ -16,7 +16,7 @@ use Rattle.evaluation.specs.Eval.{route-eval, effective-cost}
 use Rattle.evaluation.specs.Check.{route-feasible}
 use Rattle.lateness_bound.specs.Bound.{lateness-bound}
 use Rattle.plan.specs.Plan.{Plan, Slices, split, written}
-use Rattle.local_search.specs.Route.{route-distance, gain-floor}
+use Rattle.route_cost.specs.Route.{route-distance, gain-floor}
 use Rattle.local_search.specs.declared.rounds.Reduction.{Reduction}
 use Rattle.local_search.specs.Rounds.{Result}
 use Rattle.ejection_pool.specs.Pool.{Allowance}

@@ -18,7 +18,7 @@ use Rattle.labels.specs.declared.Taken.{Taken}
 use Rattle.labels.specs.declared.Taken.the-variants.{No as NotTaken, At as TakenAt}
 use Rattle.break_clock.specs.RouteEval.{priced-distance}
 use Rattle.plan.specs.Plan.{Slices}
-use Rattle.local_search.specs.Feasible.{load, fits}
+use Rattle.route_load.specs.Feasible.{load, fits}
 use Rattle.entry.specs.Table.{Work}
 use Rattle.planner.specs.Calls.{Answer, refused, answered, Reply, public-route-eval}
 use Rattle.planner.specs.Run.{Call, minimise, eliminate, run}

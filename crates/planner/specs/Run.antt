@@ -10,8 +10,8 @@ use lib.Ieee.{lt}
 use Rattle.laws.specs.All.{All}
 use Rattle.models.specs.Problem.{Problem}
 use Rattle.plan.specs.Plan.{Plan, Slices, drop-empty, occurs}
-use Rattle.local_search.specs.Route.{cost}
-use Rattle.local_search.specs.Feasible.{Sound}
+use Rattle.route_cost.specs.Route.{cost}
+use Rattle.route_load.specs.Feasible.{Sound}
 use Rattle.local_search.specs.declared.rounds.Counts.{Counts}
 use Rattle.local_search.specs.declared.rounds.Reduction.{Reduction}
 use Rattle.ejection_pool.specs.Pool.{Allowance}

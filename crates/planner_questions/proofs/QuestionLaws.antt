@@ -16,7 +16,7 @@ use Rattle.break_clock.specs.Schedule.{schedule}
 use Rattle.evaluation.specs.Eval.{route-eval, effective-cost}
 use Rattle.evaluation.specs.Check.{route-feasible}
 use Rattle.lateness_bound.specs.Bound.{lateness-bound}
-use Rattle.local_search.specs.Route.{route-distance, gain-floor}
+use Rattle.route_cost.specs.Route.{route-distance, gain-floor}
 use Rattle.local_search.proofs.ReadLaws.{distance-any}
 use Rattle.entry.specs.Table.{refusal}
 use Rattle.entry.specs.Given.{numbered, problem-inputs, route-inputs, schedule-inputs}

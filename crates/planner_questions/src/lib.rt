@@ -4,11 +4,8 @@ ghost use Rattle.models.specs.Problem.{problem};
 ghost use Rattle.planner.specs.Calls.{public-route-feasible, public-route-eval, public-effective-cost, public-schedule, public-route-distance, public-lateness-bound, public-gain-floor, public-time-window-new};
 ghost use Rattle.planner_questions.specs.Told.{checked-told, evaluated-told, number-told};
 use break_clock::route_eval::Eval;
-use break_clock::schedule;
 use evaluation::check;
-use evaluation::eval;
 use lateness_bound::bound;
-use local_search::route;
 use models::customer::TimeWindow;
 use models::customer::Window;
 use models::limits::RouteLimits;
@@ -118,7 +115,7 @@ pub fn route_eval(
     if r != 0 {
         return Evaluated::Refused(r); // not evaluated
     }
-    let worth = eval::route_eval(
+    let worth = route_worth::route_eval(
         route,
         vehicle.depot_id,
         RouteLimits::of(vehicle),
@@ -167,7 +164,7 @@ pub fn effective_cost(
     if r != 0 {
         return Number::Refused(r); // not weighed
     }
-    let cost = eval::effective_cost(
+    let cost = route_worth::effective_cost(
         route,
         vehicle.depot_id,
         RouteLimits::of(vehicle),
@@ -216,7 +213,7 @@ pub fn route_distance(
     if r != 0 {
         return Number::Refused(r);
     }
-    let distance = route::route_distance(route, vehicle.depot_id, n, distances);
+    let distance = route_cost::route_distance(route, vehicle.depot_id, n, distances);
     Number::Answered(distance)
 }
 
@@ -286,7 +283,7 @@ pub fn gain_floor(
     if r != 0 {
         return Number::Refused(r);
     }
-    let floor = route::gain_floor(distances);
+    let floor = route_cost::gain_floor(distances);
     Number::Answered(floor)
 }
 
@@ -325,7 +322,7 @@ pub fn schedule(
     if r != 0 {
         return Evaluated::Refused(r); // not scheduled
     }
-    let timed = schedule::schedule(
+    let timed = break_schedule::schedule(
         route,
         vehicle.depot_id,
         rest,

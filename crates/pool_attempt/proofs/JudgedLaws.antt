@@ -15,7 +15,7 @@ use Rattle.plan.specs.Plan.{Plan}
 use Rattle.local_search.specs.declared.rounds.Counts.{Counts}
 use Rattle.local_search.specs.Options.{Each, each-found, bind, then-some}
 use Rattle.local_search.specs.Planned.{Planned, planned-stops}
-use Rattle.local_search.specs.Route.{cost}
+use Rattle.route_cost.specs.Route.{cost}
 use Rattle.local_search.specs.Rounds.{Tried}
 use Rattle.local_search.proofs.ReadLaws.{cost-any}
 use Rattle.pool_turns.specs.declared.Emptied.{Emptied}

@@ -7,7 +7,7 @@ use Rattle.laws.specs.Edits.{erase}
 use Rattle.models.specs.Problem.{Problem}
 use Rattle.plan.specs.Plan.{Plan, route}
 use Rattle.local_search.specs.Options.{bind, then-some}
-use Rattle.local_search.specs.Route.{cost}
+use Rattle.route_cost.specs.Route.{cost}
 use Rattle.local_search.specs.declared.rounds.Counts.{Counts}
 use Rattle.local_search.specs.Rounds.{Tried}
 use Rattle.ejection_pool.specs.Pool.{Allowance, empty-into}

@@ -14,7 +14,7 @@ use mir.Val.{Fits}
 use Rattle.laws.specs.Counts.{count, one-if}
 use Rattle.models.specs.Problem.{Problem}
 use Rattle.plan.specs.Plan.{Plan, Holds, Lent, split, flat, total, occurs, put-in}
-use Rattle.local_search.specs.declared.route.Insertion.{Insertion}
+use Rattle.route_cost.specs.declared.Insertion.{Insertion}
 use Rattle.local_search.specs.declared.rounds.Counts.{Counts}
 use Rattle.local_search.specs.Planned.{Planned}
 use Rattle.insertion.specs.Cheapest.{cheapest}

@@ -1,22 +1,13 @@
--- What the tests of row 2 say of a float, a demand and a cost per distance. Assumes nothing.
-use Prim.Native.Nat.{ℕ, _≤_, _<_}
+-- What the tests of row 2 say of a float and a cost per distance. Assumes nothing.
 use mathlib.Core.Path.{_≡_, refl, sym, ap, _∙_}
-use mathlib.Core.Bool.{Bool, true, false, not, _&&_, true≢false, false≢true}
-use lib.Dec.{leb}
-use lib.IntN.{ℤ, pos, negsuc}
-use lib.Signed.{leZ}
+use mathlib.Core.Bool.{Bool, true, false, not, true≢false, false≢true}
 use lib.Ieee.{Float, nan, inf, fin, lt, le, eq, ofBits}
-use mir.Syntax.{w32}
-use mir.Val.{SFits, toZ, ofZ}
-use mir.Facts.{toZ-ofZ}
-use borrow.Author.Tests.{le-leb, lt-leb}
 use Rattle.floats.specs.Binary64.{0f, 1e-6, 1e12, is-finite, is-sign-negative}
-use Rattle.laws.specs.Picks.{picks}
 use Rattle.models.specs.declared.vehicle.Limit.{Limit}
 use Rattle.models.specs.declared.vehicle.Limit.the-variants.{At as LimitAt}
 use Rattle.models.specs.declared.vehicle.Rest.{Rest}
 use Rattle.models.specs.declared.vehicle.Rest.the-variants.{Break}
-use Rattle.models.specs.Valid.{is-amount, demand-passes, limit-passes, rest-passes, cost-passes}
+use Rattle.models.specs.Valid.{is-amount, limit-passes, rest-passes, cost-passes}
 
 -- ---- an amount
 
@@ -82,28 +73,3 @@ limit-at l most v e f = f ∙ sym (ap limit-passes e)
 
 pub rest-at : (r : Rest) (earliest latest duration : Float) (v : Bool) → r ≡ Break earliest latest duration → v ≡ rest-passes (Break earliest latest duration) → v ≡ rest-passes r
 rest-at r earliest latest duration v e f = f ∙ sym (ap rest-passes e)
-
--- ---- flags and what is asked of a place besides
-
-pub flags-pass : (flag : ℕ) (b v : Bool) → flag ≤ 3 → v ≡ b → v ≡ (leb flag 3 && b)
-flags-pass flag b v h e = e ∙ sym (ap (λ (t : Bool). t && b) (le-leb flag 3 h))
-
-pub flags-over : (flag : ℕ) (b : Bool) → 3 < flag → false ≡ (leb flag 3 && b)
-flags-over flag b h = sym (ap (λ (t : Bool). t && b) (lt-leb flag 3 h))
-
--- ---- a demand, which goes by the bits of an i32
-
-module _ (d : ℤ) (h : SFits w32 d) where
-  pub demand-above : leZ (negsuc 999_999) (toZ w32 (ofZ w32 d)) ≡ true → leZ (toZ w32 (ofZ w32 d)) (pos 1_000_000) ≡ demand-passes d
-  demand-above e = rw (toZ-ofZ h, rw (toZ-ofZ h) at e)
-
-  pub demand-below : leZ (negsuc 999_999) (toZ w32 (ofZ w32 d)) ≡ false → false ≡ demand-passes d
-  demand-below e = rw (rw (toZ-ofZ h) at e)
-
-  -- an element of a slice of i32
-  pub demand-element : (v : Bool) → v ≡ demand-passes (toZ w32 (ofZ w32 d)) → v ≡ demand-passes d
-  demand-element v e = rw (toZ-ofZ h) at e
-
-pub ruleset demand-laws = (demand-above, demand-below)
-
-pub ruleset place-laws = (picks, flags-pass, flags-over, demand-element)

@@ -1,4 +1,3 @@
-// Rows 1 to 3 of the refusal table, in code: the sizes, the numbers and the windows of a problem.
+// Rows 1 and 2 of the refusal table, in code: the sizes and the numbers of a problem. What a place must keep besides is in `place_checks`.
 pub mod amounts;
-pub mod places;
 pub mod sizes;

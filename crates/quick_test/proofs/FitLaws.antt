@@ -16,7 +16,7 @@ use Rattle.models.specs.Problem.{DistanceMatrix, Stops}
 use Rattle.distance.specs.Matrix.{travel-time}
 use Rattle.evaluation.specs.declared.check.Left.{Left}
 use Rattle.evaluation.specs.declared.check.Left.the-variants.{Missed, At as LeftAt}
-use Rattle.local_search.specs.Route.{prev-stop}
+use Rattle.route_cost.specs.Route.{prev-stop}
 use Rattle.quick_test.specs.Quick.{in-time, reaches-next, left-before, may-fit}
 use Rattle.quick_test.specs.Parts.{leave, next-in-time}
 

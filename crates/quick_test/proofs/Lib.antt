@@ -1,9 +1,7 @@
 -- Laws of this crate's definitions, as the code meets them.
--- departures, forward
-pub mod DepartureLaws
--- latest arrivals, backward
-pub mod LatestLaws
+-- a stop that is served
+pub mod ServedLaws
+-- the latest arrival at a stop
+pub mod ArrivalLaws
 -- the test of one position
 pub mod FitLaws
--- departures and latest arrivals in work cells
-pub mod PrepareLaws

@@ -3,5 +3,3 @@
 pub mod Quick
 -- its parts, a definition for each smaller function
 pub mod Parts
--- departures and latest arrivals in work cells
-pub mod Prepared

@@ -17,8 +17,8 @@ use Rattle.models.specs.Problem.{DistanceMatrix, Problem, depot}
 use Rattle.distance.specs.Matrix.{travel-time}
 use Rattle.evaluation.specs.declared.check.Left.{Left}
 use Rattle.evaluation.specs.declared.check.Left.the-variants.{Missed, At as LeftAt}
-use Rattle.local_search.specs.Route.{prev-stop}
-use Rattle.local_search.specs.Feasible.{constrained}
+use Rattle.route_cost.specs.Route.{prev-stop}
+use Rattle.route_load.specs.Feasible.{constrained}
 
 -- ---- forward
 

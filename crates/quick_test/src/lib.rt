@@ -1,28 +1,22 @@
-// The quick test of the ejection pool (local_search/route_minimization.rs): when each stop of a route is left, how late each may
-// be reached, and, by these two and in one step, whether a stop may go in between.
+// The quick test of the ejection pool (local_search/route_minimization.rs) at one stop: when it is left, how late it may be reached, and, by these
+// two and in one step, whether a stop may go in between.
 ghost use mathlib.Core.Path.{_≡_};
-ghost use mathlib.Core.List.{[]};
-ghost use Prim.Native.Nat.{_-_, _≤_, _<_};
-ghost use lib.ListN.{length, getD, take, drop};
+ghost use Prim.Native.Nat.{_≤_, _<_};
+ghost use lib.ListN.{length, getD, take};
 ghost use Rattle.models.specs.Customer.{customers, customer-at};
-ghost use Rattle.models.specs.RouteLimits.{limits-of};
-ghost use Rattle.models.specs.Problem.{matrix, problem, Square, Fit, Stops};
-ghost use Rattle.evaluation.specs.Check.{route-checks-needed};
-ghost use Rattle.local_search.specs.Route.{prev-stop};
-ghost use Rattle.quick_test.specs.Quick.{served-at, departures, earliest-start, latest-start, latest-arrival, latest-arrivals, in-time, left-before, may-fit, with-latest};
-ghost use Rattle.quick_test.specs.Parts.{leave, told, latest-in, next-in-time};
-ghost use Rattle.quick_test.specs.Prepared.{held, Prepared};
+ghost use Rattle.models.specs.Problem.{matrix, Square, Fit, Stops};
+ghost use Rattle.quick_test.specs.Quick.{served-at, earliest-start, latest-start, latest-arrival, in-time, left-before, may-fit};
+ghost use Rattle.quick_test.specs.Parts.{leave, latest-in, next-in-time};
 use distance::travel_time;
 use evaluation::check::Left;
 use floats::abs;
 use floats::infinity;
 use floats::max;
 use floats::min;
-use local_search::route::prev_stop;
 use models::customer::Customer;
 use models::customer::Window;
-use models::customer::customer_at;
-use models::vehicle::Vehicle;
+use place_record::customer_at;
+use route_cost::prev_stop;
 
 // When the service of a customer ends after `arrival`; missed once its window has closed, with a penalty or without.
 pub fn served_at(arrival: f64, customer: Customer) -> Left
@@ -40,7 +34,7 @@ pub fn served_at(arrival: f64, customer: Customer) -> Left
 }
 
 // The drive from `prev`, left at `time`, to c and the service there.
-fn leave(
+pub fn leave(
     time: f64,
     prev: usize,
     c: usize,
@@ -61,55 +55,6 @@ fn leave(
     let arrival = time + travel_time(distances, times, n, prev, c);
     let customer = customer_at(c, service, ready, due, penalty, flags);
     served_at(arrival, customer)
-}
-
-// The time each stop of a route is left goes to the first cells; false where one is reached after its window closes.
-pub fn departures(
-    out: &mut [f64],
-    route: &[u16],
-    depot: usize,
-    n: usize,
-    distances: &[f64],
-    times: &[f64],
-    service: &[f64],
-    ready: &[f64],
-    due: &[f64],
-    penalty: &[f64],
-    flags: &[u8],
-) -> bool
-    requires { ⌜ Fit (customers (now service) (now ready) (now due) (now penalty) (now flags)) (matrix n (now distances) (now times)) ⌝ }
-    requires { ⌜ (depot < n) × Stops n (now route) × (length (now route) ≤ length (now out)) ⌝ }
-    ensures { λ r. ⌜ departures (customers (now (service .entry)) (now (ready .entry)) (now (due .entry)) (now (penalty .entry)) (now (flags .entry)))
-        (matrix n (now (distances .entry)) (now (times .entry))) depot (now (route .entry))
-        ≡ told r (take (length (now (route .entry))) (now (out .exit))) ⌝ }
-{
-    let mut time = 0.0;
-    let mut prev = depot;
-    let mut i = 0;
-    while i < route.len() {
-        let c = route[i] as usize;
-        let done = leave(
-            time,
-            prev,
-            c,
-            n,
-            distances,
-            times,
-            service,
-            ready,
-            due,
-            penalty,
-            flags,
-        );
-        let Left::At(left) = done else {
-            return false;
-        };
-        out[i] = left;
-        time = left;
-        prev = c;
-        i += 1;
-    }
-    true
 }
 
 // When service may start at the earliest, where there is a window.
@@ -143,7 +88,7 @@ fn latest_in(start_by: f64, window: Window) -> f64
 }
 
 // How late c may be reached where the next stop is to be reached by `by`.
-fn latest_arrival(
+pub fn latest_arrival(
     by: f64,
     c: usize,
     next: usize,
@@ -166,52 +111,6 @@ fn latest_arrival(
     let start_by = by - travel - customer.service_duration;
     let window = customer.time_window;
     latest_in(start_by, window)
-}
-
-// The latest arrival at each stop of a route that lets it and every stop after it start in time goes to the first cells, from
-// the last to the first. The depot has no window: the last stop is bound by its own alone.
-pub fn latest_arrivals(
-    out: &mut [f64],
-    route: &[u16],
-    depot: usize,
-    n: usize,
-    distances: &[f64],
-    times: &[f64],
-    service: &[f64],
-    ready: &[f64],
-    due: &[f64],
-    penalty: &[f64],
-    flags: &[u8],
-)
-    requires { ⌜ Fit (customers (now service) (now ready) (now due) (now penalty) (now flags)) (matrix n (now distances) (now times)) ⌝ }
-    requires { ⌜ (depot < n) × Stops n (now route) × (length (now route) ≤ length (now out)) ⌝ }
-    ensures { λ _. ⌜ (take (length (now (route .entry))) (now (out .exit))
-        ≡ latest-arrivals (customers (now (service .entry)) (now (ready .entry)) (now (due .entry)) (now (penalty .entry)) (now (flags .entry)))
-        (matrix n (now (distances .entry)) (now (times .entry))) depot (now (route .entry)))
-        × (drop (length (now (route .entry))) (now (out .exit)) ≡ drop (length (now (route .entry))) (now (out .entry))) ⌝ }
-{
-    let mut by = infinity();
-    let mut next = depot;
-    let mut i = route.len();
-    while 0 < i {
-        i -= 1;
-        let c = route[i] as usize;
-        by = latest_arrival(
-            by,
-            c,
-            next,
-            n,
-            distances,
-            times,
-            service,
-            ready,
-            due,
-            penalty,
-            flags,
-        );
-        out[i] = by;
-        next = c;
-    }
 }
 
 // Whether an arrival is by a bound, with room for rounding. A bound of -infinity makes a NaN, and the answer is no.
@@ -307,167 +206,4 @@ pub fn may_fit(
         return false;
     };
     next_in_time(left, route, latest, pos, c, n, distances, times)
-}
-
-// The departures go to the first 256 work cells; false where one of the stops is reached after its window closes.
-fn keep_departures(
-    cells: &mut [f64],
-    route: &[u16],
-    depot: usize,
-    n: usize,
-    distances: &[f64],
-    times: &[f64],
-    service: &[f64],
-    ready: &[f64],
-    due: &[f64],
-    penalty: &[f64],
-    flags: &[u8],
-) -> bool
-    requires { ⌜ Fit (customers (now service) (now ready) (now due) (now penalty) (now flags)) (matrix n (now distances) (now times)) ⌝ }
-    requires { ⌜ (depot < n) × Stops n (now route) × (512 ≤ length (now cells)) ⌝ }
-    ensures { λ r. ⌜ departures (customers (now (service .entry)) (now (ready .entry)) (now (due .entry)) (now (penalty .entry)) (now (flags .entry)))
-        (matrix n (now (distances .entry)) (now (times .entry))) depot (now (route .entry))
-        ≡ told r (take (length (now (route .entry))) (now (cells .exit))) ⌝ }
-{
-    departures(
-        &mut cells[0..256],
-        route,
-        depot,
-        n,
-        distances,
-        times,
-        service,
-        ready,
-        due,
-        penalty,
-        flags,
-    )
-}
-
-// The latest arrivals go to the next 256 work cells, and the first 256 stay.
-fn keep_latest(
-    cells: &mut [f64],
-    route: &[u16],
-    depot: usize,
-    n: usize,
-    distances: &[f64],
-    times: &[f64],
-    service: &[f64],
-    ready: &[f64],
-    due: &[f64],
-    penalty: &[f64],
-    flags: &[u8],
-)
-    requires { ⌜ Fit (customers (now service) (now ready) (now due) (now penalty) (now flags)) (matrix n (now distances) (now times)) ⌝ }
-    requires { ⌜ (depot < n) × Stops n (now route) × (512 ≤ length (now cells)) ⌝ }
-    ensures { λ _. ⌜ (take (length (now (route .entry))) (drop 256 (now (cells .exit)))
-        ≡ latest-arrivals (customers (now (service .entry)) (now (ready .entry)) (now (due .entry)) (now (penalty .entry)) (now (flags .entry)))
-        (matrix n (now (distances .entry)) (now (times .entry))) depot (now (route .entry)))
-        × (take (length (now (route .entry))) (now (cells .exit)) ≡ take (length (now (route .entry))) (now (cells .entry))) ⌝ }
-{
-    latest_arrivals(
-        &mut cells[256..512],
-        route,
-        depot,
-        n,
-        distances,
-        times,
-        service,
-        ready,
-        due,
-        penalty,
-        flags,
-    );
-}
-
-// Both, unless the departures miss a window.
-fn keep_times(
-    cells: &mut [f64],
-    route: &[u16],
-    depot: usize,
-    n: usize,
-    distances: &[f64],
-    times: &[f64],
-    service: &[f64],
-    ready: &[f64],
-    due: &[f64],
-    penalty: &[f64],
-    flags: &[u8],
-) -> bool
-    requires { ⌜ Fit (customers (now service) (now ready) (now due) (now penalty) (now flags)) (matrix n (now distances) (now times)) ⌝ }
-    requires { ⌜ (depot < n) × Stops n (now route) × (512 ≤ length (now cells)) ⌝ }
-    ensures { λ r. ⌜ with-latest (latest-arrivals (customers (now (service .entry)) (now (ready .entry)) (now (due .entry)) (now (penalty .entry)) (now (flags .entry)))
-        (matrix n (now (distances .entry)) (now (times .entry))) depot (now (route .entry)))
-        (departures (customers (now (service .entry)) (now (ready .entry)) (now (due .entry)) (now (penalty .entry)) (now (flags .entry)))
-        (matrix n (now (distances .entry)) (now (times .entry))) depot (now (route .entry)))
-        ≡ told r (held (length (now (route .entry))) (now (cells .exit))) ⌝ }
-{
-    if keep_departures(
-        cells,
-        route,
-        depot,
-        n,
-        distances,
-        times,
-        service,
-        ready,
-        due,
-        penalty,
-        flags,
-    ) {
-        keep_latest(
-            cells,
-            route,
-            depot,
-            n,
-            distances,
-            times,
-            service,
-            ready,
-            due,
-            penalty,
-            flags,
-        );
-        return true;
-    }
-    false
-}
-
-// Before the positions of a route are tried: where the check is needed, its departures and latest arrivals go to the work cells, and
-// the answer is false where the departures miss a window. Where it is not needed nothing is done.
-pub fn prepare(
-    cells: &mut [f64],
-    route: &[u16],
-    needed: bool,
-    vehicle: Vehicle,
-    n: usize,
-    distances: &[f64],
-    times: &[f64],
-    service: &[f64],
-    ready: &[f64],
-    due: &[f64],
-    penalty: &[f64],
-    flags: &[u8],
-) -> bool
-    requires { ⌜ Fit (customers (now service) (now ready) (now due) (now penalty) (now flags)) (matrix n (now distances) (now times)) ⌝ }
-    requires { ⌜ (vehicle .«depot_id» < n) × Stops n (now route) × (512 ≤ length (now cells)) × (needed ≡ route-checks-needed (now flags) (limits-of vehicle)) ⌝ }
-    ensures { λ r. ⌜ Prepared (problem n [] (now (service .entry)) (now (ready .entry)) (now (due .entry)) (now (penalty .entry)) (now (flags .entry))
-        (now (distances .entry)) (now (times .entry)) vehicle) (now (route .entry)) r (now (cells .exit)) ⌝ }
-{
-    if needed {
-        return keep_times(
-            cells,
-            route,
-            vehicle.depot_id,
-            n,
-            distances,
-            times,
-            service,
-            ready,
-            due,
-            penalty,
-            flags,
-        );
-    }
-    true
 }

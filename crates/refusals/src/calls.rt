@@ -4,14 +4,14 @@ ghost use Rattle.models.specs.Problem.{problem};
 ghost use Rattle.plan.specs.Plan.{Slices};
 ghost use Rattle.entry.specs.Table.{Work, refusal};
 ghost use Rattle.entry.specs.Given.{numbered, problem-inputs, route-inputs, schedule-inputs, eliminate-inputs, minimise-inputs};
-use crate::rows::minimise_rows;
-use crate::rows::plan_rows;
-use crate::rows::problem_rows;
-use crate::rows::route_rows;
-use crate::rows::work_rows;
 use models::vehicle::Vehicle;
 use models::vehicle::VehicleBreak;
 use problem_checks::amounts::break_passes;
+use refusal_rows::minimise_rows;
+use refusal_rows::plan_rows;
+use refusal_rows::problem_rows;
+use refusal_rows::route_rows;
+use refusal_rows::work_rows;
 
 // A call that is given the problem alone: rows 1 to 4.
 pub fn problem_refusal(

@@ -14,11 +14,11 @@ use Rattle.laws.specs.Loops.{loop, loop-none, loop-more, loop-end}
 use Rattle.models.specs.Problem.{Problem}
 use Rattle.plan.specs.Plan.{Plan, split, route}
 use Rattle.plan.specs.Slices.{length-split, route-within}
-use Rattle.local_search.specs.declared.route.Insertion.{Insertion}
-use Rattle.local_search.specs.declared.route.Best.{Best}
-use Rattle.local_search.specs.declared.route.Best.the-variants.{Nothing, At}
-use Rattle.local_search.specs.Route.{chosen}
-use Rattle.local_search.proofs.VisitLaws.{Visiting, visit-start, part-is, visit-more, visit-laws}
+use Rattle.route_cost.specs.declared.Insertion.{Insertion}
+use Rattle.route_cost.specs.declared.Best.{Best}
+use Rattle.route_cost.specs.declared.Best.the-variants.{Nothing, At}
+use Rattle.route_cost.specs.Route.{chosen}
+use Rattle.route_cost.proofs.VisitLaws.{Visiting, visit-start, part-is, visit-more, visit-laws}
 use Rattle.reinsertion_candidates.specs.declared.Move.{Move}
 use Rattle.reinsertion_candidates.specs.Candidates.{candidates, by-cost, first-passing}
 use Rattle.reinsertion_candidates.specs.Place.{look-through, look-over, unless-cut, place-is}

@@ -15,10 +15,10 @@ use Rattle.floats.specs.Binary64.{is-finite}
 use Rattle.laws.specs.Loops.{loop, loop-none, loop-more, loop-end, loop-same}
 use Rattle.models.specs.declared.vehicle.Vehicle.{Vehicle}
 use Rattle.models.specs.Problem.{Problem, problem, of-demand}
-use Rattle.local_search.specs.declared.route.Insertion.{Insertion}
-use Rattle.local_search.specs.declared.route.Best.{Best}
-use Rattle.local_search.specs.Route.{chosen}
-use Rattle.local_search.specs.Feasible.{has-room}
+use Rattle.route_cost.specs.declared.Insertion.{Insertion}
+use Rattle.route_cost.specs.declared.Best.{Best}
+use Rattle.route_cost.specs.Route.{chosen}
+use Rattle.route_load.specs.Feasible.{has-room}
 use Rattle.local_search.proofs.ReadLaws.{room-any}
 use Rattle.reinsertion_candidates.specs.declared.Move.{Move}
 use Rattle.reinsertion_worth.specs.Worth.{worth, insertion-worth, current}

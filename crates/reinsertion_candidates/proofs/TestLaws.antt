@@ -7,11 +7,11 @@ use lib.Ieee.{Float, le}
 use Rattle.floats.specs.Binary64.{_⊕_, is-finite, total-less}
 use Rattle.laws.specs.Edits.{insert-at}
 use Rattle.models.specs.Problem.{Problem}
-use Rattle.local_search.specs.declared.route.Insertion.{Insertion}
-use Rattle.local_search.specs.declared.route.Best.{Best}
-use Rattle.local_search.specs.declared.route.Best.the-variants.{At}
-use Rattle.local_search.specs.Route.{chosen}
-use Rattle.local_search.specs.Feasible.{checked}
+use Rattle.route_cost.specs.declared.Insertion.{Insertion}
+use Rattle.route_cost.specs.declared.Best.{Best}
+use Rattle.route_cost.specs.declared.Best.the-variants.{At}
+use Rattle.route_cost.specs.Route.{chosen}
+use Rattle.route_load.specs.Feasible.{checked}
 use Rattle.reinsertion_candidates.specs.Place.{comes-first, settles}
 
 pub counts-soft : (s v : Bool) (x : Float) → s ≡ true → v ≡ is-finite x → v ≡ (not s || is-finite x)

@@ -9,7 +9,7 @@ use Rattle.laws.specs.All.{All}
 use Rattle.models.specs.declared.vehicle.Vehicle.{Vehicle}
 use Rattle.models.specs.Problem.{Problem, problem, depot, Fit, Stops, Admitted}
 use Rattle.plan.specs.Plan.{Lent, split, total}
-use Rattle.local_search.specs.Feasible.{constrained}
+use Rattle.route_load.specs.Feasible.{constrained}
 use Rattle.reinsertion_candidates.specs.declared.Move.{Move}
 use Rattle.reinsertion_worth.specs.Worth.{soft}
 

@@ -11,8 +11,8 @@ use Rattle.laws.specs.Keeps.{keep}
 use Rattle.laws.specs.Sorts.{range, sort-by}
 use Rattle.models.specs.Problem.{Problem}
 use Rattle.plan.specs.Plan.{Plan, route}
-use Rattle.local_search.specs.declared.route.Insertion.{Insertion}
-use Rattle.local_search.specs.Feasible.{has-room, checked}
+use Rattle.route_cost.specs.declared.Insertion.{Insertion}
+use Rattle.route_load.specs.Feasible.{has-room, checked}
 use Rattle.reinsertion_worth.specs.Worth.{soft, insertion-worth}
 
 -- the candidates for c in route k: every position, but for costs that are not finite where a window is soft

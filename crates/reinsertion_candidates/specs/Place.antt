@@ -15,8 +15,8 @@ use Rattle.laws.specs.Sorts.{range}
 use Rattle.laws.specs.Firsts.{Ordering, ordering-by, find, find-sorted, better, foldl-map, foldl-flat, foldl-keep, foldl-range}
 use Rattle.models.specs.Problem.{Problem}
 use Rattle.plan.specs.Plan.{Plan, route}
-use Rattle.local_search.specs.declared.route.Insertion.{Insertion}
-use Rattle.local_search.specs.Feasible.{has-room, checked}
+use Rattle.route_cost.specs.declared.Insertion.{Insertion}
+use Rattle.route_load.specs.Feasible.{has-room, checked}
 use Rattle.reinsertion_worth.specs.Worth.{soft, insertion-worth}
 use Rattle.reinsertion_candidates.specs.Candidates.{positions, candidates-in, candidates, nowhere, by-cost, trial, first-passing}
 

@@ -7,13 +7,13 @@ ghost use Prim.Native.Nat.{_≤_};
 ghost use lib.ListN.{length};
 ghost use Rattle.floats.specs.Binary64.{is-finite};
 ghost use Rattle.models.specs.Problem.{problem};
-ghost use Rattle.local_search.specs.Route.{chosen};
+ghost use Rattle.route_cost.specs.Route.{chosen};
 ghost use Rattle.reinsertion_candidates.specs.Place.{comes-first, settles};
 ghost use Rattle.reinsertion_candidates.specs.Asked.{Looked};
 use floats::is_finite;
 use floats::total_less;
 use local_search::feasible::trial_ok;
-use local_search::route::Best;
+use route_cost::Best;
 use models::vehicle::Vehicle;
 
 // A stop c that is to be moved: what was added to the worth of the other routes so far, what is saved, whether a window is soft and whether

@@ -16,7 +16,7 @@ use Rattle.models.specs.declared.vehicle.Vehicle.{Vehicle}
 use Rattle.models.specs.Customer.{Customers}
 use Rattle.models.specs.Problem.{DistanceMatrix, Problem, Stops, depot}
 use Rattle.evaluation.specs.Eval.{effective-cost}
-use Rattle.local_search.specs.Route.{route-distance, insertion-cost}
+use Rattle.route_cost.specs.Route.{route-distance, insertion-cost}
 use Rattle.local_search.proofs.ReadLaws.{distance-any, insertion-any}
 use Rattle.reinsertion_worth.specs.Worth.{soft, worth, insertion-worth, current}
 

@@ -9,7 +9,7 @@ use Rattle.models.specs.RouteLimits.{limits-of}
 use Rattle.models.specs.Problem.{Problem, depot}
 use Rattle.evaluation.specs.Eval.{effective-cost}
 use Rattle.evaluation.specs.Check.{has-soft-windows}
-use Rattle.local_search.specs.Route.{route-distance, insertion-cost}
+use Rattle.route_cost.specs.Route.{route-distance, insertion-cost}
 
 -- `soft`
 abbrev pub soft : Problem → Bool

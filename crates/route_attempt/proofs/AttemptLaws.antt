@@ -17,7 +17,7 @@ use Rattle.plan.specs.Routes.{number-erase, occurs-erase}
 use Rattle.plan.specs.Saved.{saved-lengths, saved-stops}
 use Rattle.plan.specs.Slices.{route-within, route-split, length-split, flat-split-all}
 use Rattle.local_search.specs.declared.rounds.Counts.{Counts}
-use Rattle.local_search.specs.Route.{cost}
+use Rattle.route_cost.specs.Route.{cost}
 use Rattle.local_search.specs.Rounds.{Tried}
 use Rattle.local_search.specs.Search.{Ends-with-0, but-last}
 use Rattle.ejection_made.specs.Made.{stack}

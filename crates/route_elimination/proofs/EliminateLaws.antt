@@ -5,9 +5,9 @@ use mathlib.Core.List.{List, _++_}
 use native.Mathlib.Omega.{arith}
 use lib.ListN.{length, take, drop}
 use Rattle.models.specs.Problem.{Problem, Admitted}
-use Rattle.plan.specs.declared.order.Pick.{Pick}
+use Rattle.route_order.specs.declared.Pick.{Pick}
 use Rattle.plan.specs.Plan.{Plan, split}
-use Rattle.plan.specs.Order.{following}
+use Rattle.route_order.specs.Order.{following}
 use Rattle.local_search.specs.declared.rounds.Counts.{Counts}
 use Rattle.local_search.specs.declared.rounds.Next.{Next}
 use Rattle.local_search.specs.declared.rounds.Next.the-variants.{Kept, Accepted as Took}

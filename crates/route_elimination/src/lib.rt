@@ -10,10 +10,10 @@ use elimination_round::try_next;
 use evaluation::check::has_soft_windows;
 use local_search::feasible::constrained;
 use local_search::rounds::Next;
-use local_search::route::gain_floor;
 use models::vehicle::Vehicle;
-use plan::drop_empty;
-use plan::order::Pick;
+use route_cost::gain_floor;
+use route_order::Pick;
+use route_removal::drop_empty;
 
 // `eliminate_routes`: rounds of attempts, begun again from the shortest route as soon as one is accepted. How many routes are left.
 pub fn eliminate_routes(

@@ -10,7 +10,7 @@ use lib.Ieee.{Float}
 use Rattle.models.specs.RouteLimits.{limits-of}
 use Rattle.models.specs.Problem.{Problem, Admitted}
 use Rattle.evaluation.specs.Check.{has-soft-windows, route-checks-needed}
-use Rattle.plan.specs.declared.order.Pick.{Pick}
+use Rattle.route_order.specs.declared.Pick.{Pick}
 use Rattle.plan.specs.Plan.{split, flat, lengths-of, total, padded}
 use Rattle.plan.specs.Slices.{length-split, lengths-split, flat-split-all}
 use Rattle.plan.specs.Dropped.{padded-full}

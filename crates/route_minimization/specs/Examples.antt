@@ -14,7 +14,7 @@ use Rattle.models.specs.declared.vehicle.Rest.the-variants.{None as NoRest}
 use Rattle.models.specs.declared.vehicle.Vehicle.{Vehicle}
 use Rattle.models.specs.Problem.{Problem, problem}
 use Rattle.plan.specs.Plan.{Plan}
-use Rattle.local_search.specs.Feasible.{feasible}
+use Rattle.route_load.specs.Feasible.{feasible}
 use Rattle.local_search.specs.declared.rounds.Counts.{Counts}
 use Rattle.quick_test.specs.Quick.{departures, latest-arrivals, may-fit}
 use Rattle.ejection_pool.specs.Pool.{Allowance}

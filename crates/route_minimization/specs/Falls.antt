@@ -19,8 +19,8 @@ use Rattle.models.specs.Problem.{Problem}
 use Rattle.evaluation.specs.Check.{has-soft-windows}
 use Rattle.plan.specs.Plan.{Plan, route, non-empty, drop-empty}
 use Rattle.local_search.specs.Options.{Each, each-found, each-then-some, each-bind, each-both}
-use Rattle.local_search.specs.Route.{cost}
-use Rattle.local_search.specs.RouteLaws.{cost-held}
+use Rattle.route_cost.specs.Route.{cost}
+use Rattle.route_load.specs.RouteLaws.{cost-held}
 use Rattle.local_search.specs.declared.rounds.Counts.{Counts}
 use Rattle.local_search.specs.Rounds.{Result, try-all, rounds, reduce}
 use Rattle.local_search.specs.RoundRules.{rounds-rule}

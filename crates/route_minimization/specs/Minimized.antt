@@ -15,7 +15,7 @@ use Rattle.evaluation.specs.Check.{has-soft-windows}
 use Rattle.plan.specs.Plan.{Plan, non-empty, drop-empty, occurs}
 use Rattle.plan.specs.Dropped.{occurs-drop-empty}
 use Rattle.local_search.specs.Options.{Each}
-use Rattle.local_search.specs.Feasible.{feasible}
+use Rattle.route_load.specs.Feasible.{feasible}
 use Rattle.local_search.specs.declared.rounds.Counts.{Counts}
 use Rattle.local_search.specs.Rounds.{Result, reduce}
 use Rattle.local_search.specs.Reduced.{Better, Bounded, triangle, Ended, reduce-ended}

@@ -19,7 +19,7 @@ use local_search::rounds::Reduction;
 use minimization_round::begin;
 use minimization_round::try_next;
 use models::vehicle::Vehicle;
-use plan::order::Pick;
+use route_order::Pick;
 
 // Rounds of attempts, begun again from the shortest route as soon as one is accepted.
 fn search(

@@ -15,7 +15,7 @@ use Rattle.laws.specs.All.{All, all-nil, all-cons, all-get}
 use Rattle.laws.specs.Matrix.{in-matrix}
 use Rattle.models.specs.Problem.{matrix}
 use Rattle.distance.specs.Matrix.{get}
-use Rattle.local_search.specs.Route.{legs, route-distance}
+use Rattle.route_cost.specs.Route.{legs, route-distance}
 use Rattle.listing.specs.Listing.{whole}
 
 -- a cell that is there, whatever stands for one that is not

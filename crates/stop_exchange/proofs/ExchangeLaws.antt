@@ -16,9 +16,9 @@ use Rattle.models.specs.declared.vehicle.Vehicle.{Vehicle}
 use Rattle.models.specs.Problem.{Problem, problem, of-demand, Stops}
 use Rattle.plan.specs.Plan.{Plan, Lent, Has-stop, split, route, offset, exchange-stops}
 use Rattle.plan.specs.Exchanges.{occurs-exchange-stops, number-exchange-stops, first-stop-still, second-stop-still, exchange-stops-twice}
-use Rattle.local_search.specs.Feasible.{load, fits, checked, feasible}
+use Rattle.route_load.specs.Feasible.{load, fits, checked, feasible}
 use Rattle.local_search.specs.Planned.{Planned, planned-stops, planned-as}
-use Rattle.local_search.proofs.VisitLaws.{Visiting, part-end, part-end-fits, part-length-fits, part-is, part-stops}
+use Rattle.route_cost.proofs.VisitLaws.{Visiting, part-end, part-end-fits, part-length-fits, part-is, part-stops}
 use Rattle.perturbation.specs.Perturb.{stands, try-exchange}
 
 -- ---- route k, which begins at `at`

@@ -8,13 +8,13 @@ ghost use Rattle.models.specs.Customer.{customers};
 ghost use Rattle.models.specs.Problem.{matrix, problem, of-demand, Admitted, Demands, Fit, Stops};
 ghost use Rattle.evaluation.specs.Check.{route-checks-needed};
 ghost use Rattle.plan.specs.Plan.{Lent, split, route};
-ghost use Rattle.local_search.specs.Feasible.{load, fits, checked};
+ghost use Rattle.route_load.specs.Feasible.{load, fits, checked};
 ghost use Rattle.local_search.specs.Planned.{Planned};
 ghost use Rattle.perturbation.specs.Perturb.{stands};
 use local_search::feasible::checked;
-use local_search::feasible::within_capacity;
 use models::vehicle::Vehicle;
 use plan::offset;
+use route_load::within_capacity;
 
 // Whether the load of route k is within capacity.
 fn within_at(lengths: &[u16], stops: &[u16], k: usize, vehicle: Vehicle, demand: &[i32]) -> bool

@@ -8,7 +8,7 @@ ghost use Rattle.local_search.specs.Planned.{Planned};
 ghost use Rattle.perturbation.specs.Perturb.{try-exchange};
 use crate::check::both_feasible;
 use models::vehicle::Vehicle;
-use plan::exchange_stops;
+use route_exchange::exchange_stops;
 
 pub mod check;
 

@@ -18,10 +18,10 @@ use Rattle.models.specs.Problem.{Problem, Stops}
 use Rattle.plan.specs.Plan.{Holds, Has-position, split, route, total, put-in}
 use Rattle.plan.specs.Slices.{length-split, length-route, route-within}
 use Rattle.plan.specs.Routes.{all-put-in}
-use Rattle.local_search.specs.declared.route.Insertion.{Insertion}
-use Rattle.local_search.specs.declared.route.Best.{Best}
-use Rattle.local_search.specs.declared.route.Best.the-variants.{Nothing as Nowhere, At as Found}
-use Rattle.local_search.specs.Route.{chosen}
+use Rattle.route_cost.specs.declared.Insertion.{Insertion}
+use Rattle.route_cost.specs.declared.Best.{Best}
+use Rattle.route_cost.specs.declared.Best.the-variants.{Nothing as Nowhere, At as Found}
+use Rattle.route_cost.specs.Route.{chosen}
 use Rattle.reinsertion_candidates.specs.declared.Move.{Move}
 use Rattle.stop_moves.specs.declared.Sum.{Sum}
 use Rattle.stop_moves.specs.declared.Sum.the-variants.{Nothing, At}

@@ -14,8 +14,8 @@ use Rattle.laws.specs.All.{All}
 use Rattle.models.specs.Problem.{Problem, Admitted, Stops}
 use Rattle.plan.specs.Plan.{Plan, route, split, total, Lent, Has-position, put-in}
 use Rattle.local_search.specs.Options.{bind, then-some, Each}
-use Rattle.local_search.specs.declared.route.Insertion.{Insertion}
-use Rattle.local_search.specs.Feasible.{constrained, has-room}
+use Rattle.route_cost.specs.declared.Insertion.{Insertion}
+use Rattle.route_load.specs.Feasible.{constrained, has-room}
 use Rattle.stop_moves.specs.declared.Sum.{Sum}
 use Rattle.stop_moves.specs.declared.Sum.the-variants.{Nothing, At}
 use Rattle.reinsertion_worth.specs.Worth.{soft, insertion-worth}

@@ -10,7 +10,7 @@ ghost use Rattle.reinsertion_candidates.specs.Asked.{Asked, Room};
 ghost use Rattle.elimination_moves.specs.Largest.{first-largest, in-order};
 ghost use Rattle.stop_moves.specs.Moves.{so-far, held-by, Waiting, Kept};
 use elimination_moves::take_largest;
-use local_search::route::Best;
+use route_cost::Best;
 use models::vehicle::Vehicle;
 use plan::put_in;
 use reinsertion::place;

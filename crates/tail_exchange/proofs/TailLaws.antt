@@ -20,7 +20,7 @@ use Rattle.plan.specs.Plan.{Plan, Holds, Lent, Has-position, split, route, tota
 use Rattle.plan.specs.Slices.{length-route, route-split, route-within, total-set, position-route, position-within}
 use Rattle.plan.specs.Exchanges.{length-exchange-tails, occurs-exchange-tails, number-exchange-tails, first-exchange-tails, second-exchange-tails}
 use Rattle.plan.proofs.PlanLaws.{position-upto, position-fits, position-length-fits}
-use Rattle.local_search.specs.Feasible.{load, fits, feasible}
+use Rattle.route_load.specs.Feasible.{load, fits, feasible}
 use Rattle.local_search.specs.Planned.{Planned, planned-stops, planned-as}
 use Rattle.perturbation.specs.Perturb.{try-tails}
 use Rattle.perturbation.specs.Parts.{joined, joined-stands}

@@ -7,16 +7,16 @@ ghost use Rattle.models.specs.RouteLimits.{limits-of};
 ghost use Rattle.models.specs.Problem.{problem, of-demand, Admitted, Demands, Stops};
 ghost use Rattle.evaluation.specs.Check.{route-checks-needed};
 ghost use Rattle.plan.specs.Plan.{Holds, Lent, Has-position, split, total};
-ghost use Rattle.local_search.specs.Feasible.{load, fits, feasible};
+ghost use Rattle.route_load.specs.Feasible.{load, fits, feasible};
 ghost use Rattle.local_search.specs.Planned.{Planned};
 ghost use Rattle.perturbation.specs.Perturb.{try-tails};
 ghost use Rattle.perturbation.specs.Parts.{joined, joined-stands};
 use cells::copy_part;
 use local_search::feasible::feasible;
-use local_search::feasible::within_capacity;
 use models::vehicle::Vehicle;
-use plan::exchange_tails;
 use plan::offset;
+use route_exchange::exchange_tails;
+use route_load::within_capacity;
 
 // The front of route a up to i goes to the first work cells, and behind it the tail of route b from j. Returns how many stops these are.
 fn join(

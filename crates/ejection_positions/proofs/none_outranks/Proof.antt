@@ -7,7 +7,7 @@ use native.Mathlib.Omega.{arith}
 use borrow.Author.Needs.{needs}
 use lib.ListN.{length}
 use Rattle.models.specs.Problem.{matrix}
-use Rattle.local_search.specs.Route.{insertion-cost}
+use Rattle.route_cost.specs.Route.{insertion-cost}
 use Rattle.ejection.specs.Eject.{chosen, outranks}
 use Rattle.ejection_positions.specs.Pass.{none-outranks}
 use Rattle.laws.specs.Passed.{Passed, passed-one, failed-one, every-laws}

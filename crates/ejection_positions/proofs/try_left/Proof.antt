@@ -1,7 +1,7 @@
 -- `try_left` meets its contract.
 use native.Mathlib.Omega.{arith}
 use borrow.Author.Needs.{needs}
-use Rattle.local_search.proofs.FeasibleLaws.{demands-own, stops-own, place-own}
+use Rattle.route_load.proofs.FeasibleLaws.{demands-own, stops-own, place-own}
 use Rattle.ejection_positions.proofs.PositionLaws.{kept-laws}
 use Rattle.ejection_positions.proofs.try_left.Statement.{statement}
 use Rattle.ejection_positions.proofs.try_left.Tie as tie

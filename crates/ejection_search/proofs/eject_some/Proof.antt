@@ -2,7 +2,7 @@
 use Prim.Native.Nat.{_-_}
 use lib.ListN.{length}
 use Rattle.models.specs.Problem.{problem}
-use Rattle.local_search.proofs.VisitLaws.{part-end, part-end-fits, part-length-fits}
+use Rattle.route_cost.proofs.VisitLaws.{part-end, part-end-fits, part-length-fits}
 use Rattle.ejection_search.proofs.SearchLaws.{Over, over-start, over-sought, over-more, over-end}
 use borrow.Author.Needs.{needs}
 use native.Mathlib.Omega.{arith}

@@ -1,6 +1,6 @@
 -- `saved_by` meets its contract.
 use borrow.Author.Needs.{needs}
-use Rattle.local_search.proofs.VisitLaws.{part-end, part-end-fits, part-length-fits, part-stops}
+use Rattle.route_cost.proofs.VisitLaws.{part-end, part-end-fits, part-length-fits, part-stops}
 use Rattle.emptied_route.proofs.EmptiedLaws.{attempt-visit}
 use Rattle.elimination_attempt.proofs.AttemptLaws.{saved-is}
 use Rattle.elimination_attempt.proofs.saved_by.Statement.{statement}

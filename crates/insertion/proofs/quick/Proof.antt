@@ -1,6 +1,6 @@
 -- `quick` meets its contract.
 use borrow.Author.Needs.{needs}
-use Rattle.quick_test.proofs.PrepareLaws.{part-laws}
+use Rattle.route_times.proofs.PrepareLaws.{part-laws}
 use Rattle.insertion.proofs.PassLaws.{quick-is}
 use Rattle.insertion.proofs.quick.Statement.{statement}
 use Rattle.insertion.proofs.quick.Tie as tie

@@ -1,6 +1,6 @@
 -- `put_route` meets its contract. Assumes nothing.
 use borrow.Author.Needs.{needs}
-use Rattle.local_search.proofs.FeasibleLaws.{demands-own, stops-own}
+use Rattle.route_load.proofs.FeasibleLaws.{demands-own, stops-own}
 use Rattle.listing_routes.proofs.LineLaws.{line-casts, line-room, line-written}
 use Rattle.listing_routes.proofs.put_route.Statement.{statement}
 use Rattle.listing_routes.proofs.put_route.Tie as tie

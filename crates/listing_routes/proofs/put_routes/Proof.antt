@@ -3,7 +3,7 @@ use Prim.Native.Nat.{_-_}
 use native.Mathlib.Omega.{arith}
 use lib.ListN.{length}
 use borrow.Author.Needs.{needs}
-use Rattle.local_search.proofs.VisitLaws.{part-end, part-end-fits, part-length-fits}
+use Rattle.route_cost.proofs.VisitLaws.{part-end, part-end-fits, part-length-fits}
 use Rattle.listing_routes.proofs.LineLaws.{Lining, lining-start, lining-stops, lining-prints, lining-room, lining-more, lining-end}
 use Rattle.listing_routes.proofs.put_routes.Statement.{statement}
 use Rattle.listing_routes.proofs.put_routes.Tie as tie

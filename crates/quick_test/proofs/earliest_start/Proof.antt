@@ -1,6 +1,6 @@
 -- `earliest_start` meets its contract.
 use borrow.Author.Needs.{needs}
-use Rattle.quick_test.proofs.LatestLaws.{earliest-none}
+use Rattle.quick_test.proofs.ArrivalLaws.{earliest-none}
 use Rattle.quick_test.proofs.earliest_start.Tie as tie
 use Rattle.quick_test.proofs.earliest_start.Statement.{statement}
 

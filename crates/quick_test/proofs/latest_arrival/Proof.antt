@@ -1,6 +1,6 @@
 -- `latest_arrival` meets its contract.
 use borrow.Author.Needs.{needs}
-use Rattle.quick_test.proofs.LatestLaws.{latest-is}
+use Rattle.quick_test.proofs.ArrivalLaws.{latest-is}
 use Rattle.quick_test.proofs.latest_arrival.Tie as tie
 use Rattle.quick_test.proofs.latest_arrival.Statement.{statement}
 

@@ -1,6 +1,6 @@
 -- `latest_in` meets its contract.
 use borrow.Author.Needs.{needs}
-use Rattle.quick_test.proofs.LatestLaws.{latest-in-laws}
+use Rattle.quick_test.proofs.ArrivalLaws.{latest-in-laws}
 use Rattle.quick_test.proofs.latest_in.Tie as tie
 use Rattle.quick_test.proofs.latest_in.Statement.{statement}
 

@@ -1,6 +1,6 @@
 -- `leave` meets its contract.
 use borrow.Author.Needs.{needs}
-use Rattle.quick_test.proofs.DepartureLaws.{leave-is}
+use Rattle.quick_test.proofs.ServedLaws.{leave-is}
 use Rattle.quick_test.proofs.leave.Tie as tie
 use Rattle.quick_test.proofs.leave.Statement.{statement}
 

@@ -1,6 +1,6 @@
 -- `served_at` meets its contract.
 use borrow.Author.Needs.{needs}
-use Rattle.quick_test.proofs.DepartureLaws.{served-laws}
+use Rattle.quick_test.proofs.ServedLaws.{served-laws}
 use Rattle.quick_test.proofs.served_at.Tie as tie
 use Rattle.quick_test.proofs.served_at.Statement.{statement}
 

@@ -3,7 +3,7 @@ use Prim.Native.Nat.{_-_}
 use lib.ListN.{length}
 use borrow.Author.Needs.{needs}
 use Rattle.models.specs.Problem.{problem}
-use Rattle.local_search.proofs.VisitLaws.{part-end, part-stops}
+use Rattle.route_cost.proofs.VisitLaws.{part-end, part-stops}
 use Rattle.reinsertion.proofs.OverLaws.{Seeking, seeking-few, seeking-laws}
 use Rattle.reinsertion.proofs.look_over.Statement.{statement}
 use Rattle.reinsertion.proofs.look_over.Tie as tie

@@ -1,6 +1,6 @@
 -- `place::look_through` meets its contract.
 use borrow.Author.Needs.{needs}
-use Rattle.local_search.proofs.FeasibleLaws.{demands-own, stops-own, place-own}
+use Rattle.route_load.proofs.FeasibleLaws.{demands-own, stops-own, place-own}
 use Rattle.reinsertion.proofs.PlaceLaws.{through-laws}
 use Rattle.reinsertion.proofs.look_through.Statement.{statement}
 use Rattle.reinsertion.proofs.look_through.Tie as tie

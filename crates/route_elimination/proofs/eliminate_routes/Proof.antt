@@ -5,7 +5,7 @@ use borrow.Author.Needs.{needs}
 use lib.ListN.{length, take}
 use Rattle.models.specs.Problem.{problem}
 use Rattle.plan.specs.Plan.{drop-zero}
-use Rattle.plan.specs.Order.{following}
+use Rattle.route_order.specs.Order.{following}
 use Rattle.local_search.specs.Search.{uncounted}
 use Rattle.local_search.proofs.SearchLaws.{Rounding, Trying, rounding-start, round-same, trying-start, front-length, front-in, back-long, at-end, after-kept-less, after-accepted-less}
 use Rattle.elimination_moves.specs.Eliminate.{attempt}

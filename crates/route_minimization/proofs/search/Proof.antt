@@ -5,9 +5,9 @@ use borrow.Author.Needs.{needs}
 use lib.ListN.{length, take}
 use Rattle.models.specs.Problem.{problem}
 use Rattle.plan.specs.Plan.{split, drop-zero}
-use Rattle.plan.specs.Order.{following}
+use Rattle.route_order.specs.Order.{following}
 use Rattle.ejection_pool.specs.Running.{allowance}
-use Rattle.local_search.specs.Route.{cost}
+use Rattle.route_cost.specs.Route.{cost}
 use Rattle.local_search.proofs.SearchLaws.{Rounding, Trying, rounding-start, round-lent, round-same, trying-start, front-length, front-in, trying-routes, trying-routes-few, back-long, at-end, after-kept-less, after-kept, after-accepted-less, after-accepted}
 use Rattle.pool_attempt.specs.Attempt.{attempt}
 use Rattle.minimization_round.specs.Attempted.{attempt-reduces}

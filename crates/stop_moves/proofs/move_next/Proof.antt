@@ -1,6 +1,6 @@
 -- `moves::move_next` meets its contract.
 use borrow.Author.Needs.{needs}
-use Rattle.local_search.proofs.FeasibleLaws.{demands-own, stops-own}
+use Rattle.route_load.proofs.FeasibleLaws.{demands-own, stops-own}
 use Rattle.stop_moves.proofs.MoveLaws.{next-asked, next-room, next-free, next-moved}
 use Rattle.stop_moves.proofs.move_next.Statement.{statement}
 use Rattle.stop_moves.proofs.move_next.Tie as tie

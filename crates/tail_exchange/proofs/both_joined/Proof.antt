@@ -1,7 +1,7 @@
 -- `both_joined` meets its contract.
 use native.Mathlib.Omega.{arith}
 use mathlib.Core.Path.{sym}
-use Rattle.local_search.proofs.FeasibleLaws.{demands-own}
+use Rattle.route_load.proofs.FeasibleLaws.{demands-own}
 use Rattle.tail_exchange.proofs.TailLaws.{joined-heavy, joined-falls, joined-decides}
 use borrow.Author.Needs.{needs}
 use Rattle.tail_exchange.proofs.both_joined.Statement.{statement}

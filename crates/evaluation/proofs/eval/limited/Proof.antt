@@ -1,6 +1,6 @@
 -- `eval::limited` meets its contract.
 use borrow.Author.Needs.{needs}
-use Rattle.evaluation.proofs.EvalLaws.{limited-laws}
+use Rattle.evaluation.proofs.LimitLaws.{limited-laws}
 use Rattle.evaluation.proofs.eval.limited.Statement.{statement}
 use Rattle.evaluation.proofs.eval.limited.Tie as tie
 

@@ -1,6 +1,6 @@
 -- `feasible::feasible` meets its contract.
 use borrow.Author.Needs.{needs}
-use Rattle.local_search.proofs.FeasibleLaws.{own-laws, feasible-laws}
+use Rattle.route_load.proofs.FeasibleLaws.{own-laws, feasible-laws}
 use Rattle.local_search.proofs.feasible.feasible.Statement.{statement}
 use Rattle.local_search.proofs.feasible.feasible.Tie as tie
 

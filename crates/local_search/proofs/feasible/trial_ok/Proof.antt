@@ -1,6 +1,6 @@
 -- `feasible::trial_ok` meets its contract.
 use borrow.Author.Needs.{needs}
-use Rattle.local_search.proofs.FeasibleLaws.{check-laws}
+use Rattle.route_load.proofs.FeasibleLaws.{check-laws}
 use Rattle.local_search.proofs.feasible.trial_ok.Statement.{statement}
 use Rattle.local_search.proofs.feasible.trial_ok.Tie as tie
 

@@ -1,6 +1,6 @@
 -- `check::both_feasible` meets its contract.
 use borrow.Author.Needs.{needs}
-use Rattle.local_search.proofs.FeasibleLaws.{demands-own}
+use Rattle.route_load.proofs.FeasibleLaws.{demands-own}
 use Rattle.stop_exchange.proofs.ExchangeLaws.{stands-laws}
 use Rattle.stop_exchange.proofs.check.both_feasible.Statement.{statement}
 use Rattle.stop_exchange.proofs.check.both_feasible.Tie as tie

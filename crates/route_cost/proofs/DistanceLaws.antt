@@ -1,0 +1,155 @@
+-- Laws of specs/Route, each from the facts that the code has where it needs it. Assumes nothing.
+use Prim.Native.Nat.{ℕ, _+_, _-_, _*_, _≤_, _<_}
+use native.Mathlib.Numerals.{add-one}
+use native.Mathlib.Omega.{arith}
+use mathlib.Core.Path.{_≡_, refl, sym, ap, _∙_}
+use mathlib.Core.Bool.{Bool, true, false, cond}
+use mathlib.Core.List.{List, [], _∷_}
+use lib.ListN.{length, getD, take, drop, drop-of-length-le}
+use lib.Seq.{drop-cons}
+use lib.Dec.{eqb, ltb}
+use lib.Ieee.{Float}
+use mir.Syntax.{w64}
+use mir.Val.{Fits}
+use borrow.Author.Needs.{needs}
+use borrow.Author.Tests.{eqb-false, ltb-true}
+use Rattle.floats.specs.Binary64.{_⊕_, _⊖_, 0f}
+use Rattle.laws.specs.All.{All}
+use Rattle.laws.specs.Loops.{foldl, fold-more, fold-end}
+use Rattle.models.specs.declared.vehicle.Vehicle.{Vehicle}
+use Rattle.models.specs.Vehicle.{fixed-cost-in-distance}
+use Rattle.models.specs.Problem.{DistanceMatrix, matrix, of-distances, Stops}
+use Rattle.distance.specs.Matrix.{get, cell}
+use Rattle.plan.specs.Plan.{Lent, split}
+use Rattle.plan.specs.Slices.{length-split}
+use Rattle.route_cost.proofs.VisitLaws.{Visiting, visit-start, part-is, visit-more, visit-laws}
+use Rattle.route_cost.specs.Route.{legs, route-distance, prev-stop, next-stop, insertion-cost, cost}
+
+-- ---- a route: what has come so far, and the legs that are left
+
+pub record Going (n : ℕ) (distances : List Float) (depot : ℕ) (route : List ℕ) (dist : Float) (prev i : ℕ) : Type 0 where
+  pub few : n ≤ 256
+  pub cells : length distances ≡ n * n
+  pub ends : depot < n
+  pub places : Stops n route
+  pub there : prev < n
+  pub same : route-distance (matrix n distances []) depot route ≡ legs (matrix n distances []) depot dist prev (drop i route)
+
+module _ (m : DistanceMatrix) (depot : ℕ) where
+  first-leg : (r : List ℕ) → 0 < length r → route-distance m depot r ≡ legs m depot (get m depot (getD r 0 0)) (getD r 0 0) (drop 1 r)
+  unfolding route-distance
+  first-leg [] h = absurd (omega arith)
+  first-leg (c ∷ cs) h = refl
+
+  no-legs : (r : List ℕ) → length r ≡ 0 → 0f ≡ route-distance m depot r
+  unfolding route-distance
+  no-legs [] e = refl
+  no-legs (c ∷ cs) e = absurd (omega arith)
+
+module _ (n : ℕ) (distances : List Float) (depot : ℕ) (route : List ℕ) where
+  pub no-stops : length route ≡ 0 → 0f ≡ route-distance (matrix n distances []) depot route
+  no-stops e = no-legs (matrix n distances []) depot route e
+
+  pub stop-there : (k : ℕ) → Stops n route → k < length route → getD route k 0 < n
+  stop-there k s h = s .each k h
+
+  pub stop-fits : (k : ℕ) → n ≤ 256 → Stops n route → k < length route → Fits w64 (getD route k 0)
+  stop-fits k few s h = record { fits = omega (arith, s .each k h) }
+
+  pub first-fits : n ≤ 256 → Stops n route → (length route ≡ 0 → ⊥) → Fits w64 (getD route 0 0)
+  first-fits few s e = let i : 0 < length route = omega arith in stop-fits 0 few s i
+
+  pub first-there : Stops n route → (length route ≡ 0 → ⊥) → getD route 0 0 < n
+  first-there s e = s .each 0 (omega arith)
+
+  pub going-start : (x : Float) → n ≤ 256 → length distances ≡ n * n → depot < n → Stops n route → (length route ≡ 0 → ⊥)
+      → x ≡ cell distances n depot (getD route 0 0) → Going n distances depot route x (getD route 0 0) 1
+  going-start x few cells h s e ex =
+      let i : 0 < length route = omega arith in
+      record { few = few; cells = cells; ends = h; places = s; there = s .each 0 i; same = rw ex (first-leg (matrix n distances []) depot route i) }
+
+  module _ (dist x : Float) (prev i : ℕ) (g : Going n distances depot route dist prev i) where
+    pub going-on : i < length route → x ≡ cell distances n prev (getD route i 0) → Going n distances depot route (dist ⊕ x) (getD route i 0) (i + 1)
+    unfolding legs
+    going-on h e =
+        record {
+          few = g .few;
+          cells = g .cells;
+          ends = g .ends;
+          places = g .places;
+          there = g .places .each i h;
+          same = g .same ∙ rw (drop-cons route i 0 h, add-one i, e);
+        }
+
+    pub going-home : length route ≤ i → x ≡ cell distances n prev depot → dist ⊕ x ≡ route-distance (matrix n distances []) depot route
+    unfolding legs
+    going-home h e = sym (g .same ∙ rw (drop-of-length-le route h, e))
+
+pub ruleset going-laws = (needs, no-stops, stop-there, stop-fits, first-fits, first-there, going-start, going-on, going-home)
+
+-- ---- an insertion
+
+module _ (n depot : ℕ) (route : List ℕ) (pos v : ℕ) (h : depot < n) (s : Stops n route) where
+  pub prev-there : pos ≤ length route → v ≡ prev-stop depot route pos → v < n
+  prev-there k e = go (eqb pos 0) refl e
+    where
+      go : (t : Bool) → eqb pos 0 ≡ t → v ≡ cond t depot (getD route (pos - 1) 0) → v < n
+      go true q e = rw e h
+      go false q e = let z : pos ≡ 0 → ⊥ = eqb-false pos 0 q in let i : 0 < pos = omega arith in rw e (s .each (pos - 1) (omega arith))
+
+  pub next-there : v ≡ next-stop depot route pos → v < n
+  next-there e = go (ltb pos (length route)) refl e
+    where
+      go : (t : Bool) → ltb pos (length route) ≡ t → v ≡ cond t (getD route pos 0) depot → v < n
+      go true q e = rw e (s .each pos (ltb-true pos (length route) q))
+      go false q e = rw e h
+
+pub insertion-is : (n : ℕ) (distances : List Float) (depot : ℕ) (route : List ℕ) (pos c prev next : ℕ) (x y z : Float)
+    → prev ≡ prev-stop depot route pos → next ≡ next-stop depot route pos
+    → x ≡ cell distances n prev c → y ≡ cell distances n c next → z ≡ cell distances n prev next
+    → x ⊕ y ⊖ z ≡ insertion-cost (matrix n distances []) depot route pos c
+unfolding insertion-cost
+insertion-is n distances depot route pos c prev next x y z ep en ex ey ez = rw (← ep, ← en, ex, ey, ez)
+
+pub ruleset ends-laws = (needs, prev-there, next-there)
+
+-- ---- a plan: the sum so far, and the routes that are left
+
+abbrev adds : ℕ → List Float → ℕ → Float → Float → List ℕ → Float
+adds n distances depot fixed sum r = sum ⊕ (route-distance (matrix n distances []) depot r ⊕ fixed)
+
+pub record Costing (n : ℕ) (distances : List Float) (depot : ℕ) (fixed : Float) (lengths stops : List ℕ) (sum : Float) (at k : ℕ) : Type 0 where
+  pub few : n ≤ 256
+  pub cells : length distances ≡ n * n
+  pub ends : depot < n
+  pub visit : Visiting n lengths stops at k
+  pub same : foldl (adds n distances depot fixed) 0f (split lengths stops) ≡ foldl (adds n distances depot fixed) sum (drop k (split lengths stops))
+
+module _ (n : ℕ) (distances : List Float) (depot : ℕ) (fixed : Float) (lengths stops : List ℕ) where
+  pub costing-start : n ≤ 256 → length distances ≡ n * n → depot < n → Lent lengths stops → All (Stops n) (split lengths stops)
+      → Costing n distances depot fixed lengths stops 0f 0 0
+  costing-start f c d l r = record { few = f; cells = c; ends = d; visit = visit-start n lengths stops l r; same = refl }
+
+  pub costing-more : (sum : Float) (at k : ℕ) → Costing n distances depot fixed lengths stops sum at k → k < length lengths
+      → (x : Float) → x ≡ route-distance (matrix n distances []) depot (take (at + getD lengths k 0 - at) (drop at stops))
+      → Costing n distances depot fixed lengths stops (sum ⊕ (x ⊕ fixed)) (at + getD lengths k 0) (k + 1)
+  costing-more sum at k g h x e =
+      record {
+        few = g .few;
+        cells = g .cells;
+        ends = g .ends;
+        visit = visit-more n lengths stops at k (g .visit) h;
+        same =
+            rw (e, part-is n lengths stops at k (g .visit) h)
+            (fold-more (adds n distances depot fixed) [] (split lengths stops) 0f sum k (g .same) (rw (length-split lengths stops) h));
+      }
+
+pub costing-end : (n : ℕ) (distances : List Float) (v : Vehicle) (fixed : Float) (lengths stops : List ℕ) (sum : Float) (at k : ℕ)
+    → Costing n distances (v .«depot_id») fixed lengths stops sum at k → fixed ≡ fixed-cost-in-distance v → length lengths ≤ k
+    → sum ≡ cost (of-distances n distances v) (split lengths stops)
+unfolding cost
+costing-end n distances v fixed lengths stops sum at k g e h =
+    fold-end (adds n distances (v .«depot_id») fixed) [] (split lengths stops) 0f sum k (g .same) (rw (length-split lengths stops) h)
+    ∙ ap (λ (x : Float). foldl (adds n distances (v .«depot_id») x) 0f (split lengths stops)) e
+
+pub ruleset costing-laws = (needs, visit-laws, costing-start, costing-more, costing-end)

@@ -1,0 +1,3 @@
+-- Laws that this crate's proofs cite.
+-- picks in the order by length
+pub mod OrderLaws

@@ -1,0 +1,20 @@
+-- `save` meets its contract.
+use borrow.Author.Needs.{needs}
+use Rattle.route_removal.proofs.RemovalLaws.{saved-done}
+use Rattle.route_removal.proofs.save.Tie as tie
+use Rattle.route_removal.proofs.save.Statement.{statement}
+
+copy-part-requires : tie.Need-copy-part-requires
+copy-part-requires c κs = search needs
+
+copy-part-requires-2 : tie.Need-copy-part-requires-2
+copy-part-requires-2 c κs = search needs
+
+same-length : tie.Need-same-length
+same-length c = search needs
+
+returns : tie.Need-returns
+returns c = search saved-done
+
+pub save-spec : {M : Type 1} → statement M
+save-spec = tie.close (tie.spec copy-part-requires copy-part-requires-2 same-length returns)
