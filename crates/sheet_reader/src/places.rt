@@ -3,61 +3,16 @@ ghost use mathlib.Core.Path.{_≡_};
 ghost use Prim.Native.Nat.{_+_};
 ghost use Rattle.sheet_text.specs.Text.{map-reading, repeat};
 ghost use Rattle.sheet_format.specs.Form.{place as Form·place, places as Form·places};
-ghost use Rattle.sheet_format.specs.Form.{ready-cell as Form·ready-cell, due-cell as Form·due-cell, penalty-cell as Form·penalty-cell, flags-cell as Form·flags-cell};
 ghost use Rattle.sheet_reader.specs.Cells.{columns-of, columns, first-cells, add-place, Room, AtMost, filled, filled-places};
-use models::customer::Penalty;
-use models::customer::Window;
+use sheet_cells::due_cell;
+use sheet_cells::flags_cell;
+use sheet_cells::penalty_cell;
+use sheet_cells::ready_cell;
 use sheet_format::places::PlaceAt;
 use sheet_format::places::place_line;
 use sheet_headings::heading;
 use sheet_text::numbers::Next;
 use sheet_text::words::Count;
-
-// READY as its cell holds it, 0 where there is none.
-fn ready_cell(window: Window) -> f64
-    ensures { λ r. ⌜ r ≡ Form·ready-cell window ⌝ }
-{
-    match window {
-        Window::None => 0.0,
-        Window::Is(w) => w.ready,
-    }
-}
-
-// DUE as its cell holds it, 0 where there is none.
-fn due_cell(window: Window) -> f64
-    ensures { λ r. ⌜ r ≡ Form·due-cell window ⌝ }
-{
-    match window {
-        Window::None => 0.0,
-        Window::Is(w) => w.due,
-    }
-}
-
-// PENALTY as its cell holds it, 0 where there is none.
-fn penalty_cell(penalty: Penalty) -> f64
-    ensures { λ r. ⌜ r ≡ Form·penalty-cell penalty ⌝ }
-{
-    match penalty {
-        Penalty::None => 0.0,
-        Penalty::Of(p) => p,
-    }
-}
-
-// The flags: bit 0 for a window, bit 1 for a penalty.
-fn flags_cell(window: Window, penalty: Penalty) -> u8
-    ensures { λ r. ⌜ r ≡ Form·flags-cell window penalty ⌝ }
-{
-    match window {
-        Window::None => match penalty {
-            Penalty::None => 0,
-            Penalty::Of(_) => 2,
-        },
-        Window::Is(_) => match penalty {
-            Penalty::None => 1,
-            Penalty::Of(_) => 3,
-        },
-    }
-}
 
 // The line of place i, into cell i of each slice.
 fn place_row(

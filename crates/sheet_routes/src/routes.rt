@@ -7,6 +7,7 @@ ghost use Rattle.sheet_text.specs.Text.{number as Text·number};
 ghost use Rattle.sheet_format.specs.Form.{stop-cell as Form·stop-cell, draws as Form·draws, route-line, route-lines, routes as Form·routes, slices-of};
 ghost use Rattle.sheet_reader.specs.Cells.{front, filled, AtMost};
 ghost use Rattle.sheet_routes.specs.Routes.{filled-count, route-behind, filled-route, filled-plan, PlanWithin};
+use sheet_cells::stop_cell;
 use sheet_headings::heading;
 use sheet_text::numbers::Next;
 use sheet_text::numbers::NumberAt;
@@ -58,13 +59,6 @@ pub fn draws(cells: &mut [u64], s: &[u8], at: usize) -> Count
             Count::Got(m, e)
         }
     }
-}
-
-// A stop as its cell holds it: what does not fit becomes 65,535.
-fn stop_cell(c: u32) -> u16
-    ensures { λ r. ⌜ r ≡ Form·stop-cell c ⌝ }
-{
-    if c <= 65535 { c as u16 } else { 65535 }
 }
 
 // The k stops that end a line, into the cells from base on.

@@ -1,42 +1,46 @@
--- The sections of a sheet, one after the other. Assumes nothing.
+-- The problem of a sheet and its request, one after the other. Assumes nothing.
 use Prim.Native.Nat.{ℕ, _≤_}
 use mathlib.Core.Path.{_≡_, refl, ap, sym, _∙_}
 use mathlib.Core.List.{List}
 use lib.ListN.{length}
 use Rattle.models.specs.Problem.{Problem}
-use Rattle.plan.specs.Plan.{Plan, Slices}
-use Rattle.sheet_text.specs.Text.{Reading, refused, got, map-reading}
+use Rattle.sheet_text.specs.Text.{Reading, refused, got, next}
+use Rattle.sheet_text.proofs.ReadLaws.{next-got, next-refused}
 use Rattle.sheet_format.specs.Form.{Sheet, Run, whole-problem, draws, routes, last-run, slices-of, sections, sheet}
 use Rattle.sheet_format.specs.Faults.{not-too-long}
-use Rattle.sheet_reader.proofs.FillLaws.{got-of, refused-of}
+use Rattle.sheet_whole.specs.Request.{Request, request-of, request}
 
-abbrev sheet-of : Problem → Slices → List ℕ → Run → Sheet
-sheet-of p plan tape r = record { problem = p; plan = plan; tape = tape; run = r }
+abbrev sheet-of : Problem → Request → Sheet
+sheet-of p q = record { problem = p; plan = q .plan; tape = q .tape; run = q .run }
 
--- ---- sections that are refused, and all of them
+-- ---- three readings, one after the other, are one reading
+
+module _ {A B C D E : Type 0} (f : A → ℕ → Reading B) (g : B → ℕ → Reading C) (mk : A → B → C → D) (out : D → E) where
+  third : (a : A) (b : B) (r : Reading C) → next (next r (λ c l. got (mk a b c) l)) (λ d l. got (out d) l) ≡ next r (λ c l. got (out (mk a b c)) l)
+  third a b (refused n) = refl
+  third a b (got c l) = refl
+
+  second : (a : A) (r : Reading B)
+      → next (next r (λ b j. next (g b j) (λ c l. got (mk a b c) l))) (λ d l. got (out d) l) ≡ next r (λ b j. next (g b j) (λ c l. got (out (mk a b c)) l))
+  second a (refused n) = refl
+  second a (got b j) = third a b (g b j)
+
+  first : (r : Reading A)
+      → next (next r (λ a i. next (f a i) (λ b j. next (g b j) (λ c l. got (mk a b c) l)))) (λ d l. got (out d) l)
+      ≡ next r (λ a i. next (f a i) (λ b j. next (g b j) (λ c l. got (out (mk a b c)) l)))
+  first (refused n) = refl
+  first (got a i) = second a (f a i)
+
+-- ---- a sheet is its problem and its request
 
 module _ (s : List ℕ) (at : ℕ) where
   problem-stops : (k : ℕ) → refused k ≡ whole-problem s at → refused k ≡ sections s at
   unfolding sections
   problem-stops k e = rw (← e)
 
-  draws-stop : (p : Problem) (i k : ℕ) → got p i ≡ whole-problem s at → refused k ≡ draws s i → refused k ≡ sections s at
-  unfolding sections
-  draws-stop p i k ep e = rw (← ep, ← e)
-
-  routes-stop : (p : Problem) (i : ℕ) (tape : List ℕ) (j k : ℕ) → got p i ≡ whole-problem s at → got tape j ≡ draws s i → refused k ≡ routes s j → refused k ≡ sections s at
-  unfolding sections
-  routes-stop p i tape j k ep ed e = rw (← ep, ← ed, ← e)
-
-  run-stops : (p : Problem) (i : ℕ) (tape : List ℕ) (j : ℕ) (plan : Plan) (l k : ℕ)
-      → got p i ≡ whole-problem s at → got tape j ≡ draws s i → got plan l ≡ routes s j → refused k ≡ last-run s l → refused k ≡ sections s at
-  unfolding sections
-  run-stops p i tape j plan l k ep ed er e = rw (← ep, ← ed, ← er, ← e)
-
-  all-read : (p : Problem) (i : ℕ) (tape : List ℕ) (j : ℕ) (plan : Plan) (l : ℕ) (r : Run) (e : ℕ)
-      → got p i ≡ whole-problem s at → got tape j ≡ draws s i → got plan l ≡ routes s j → got r e ≡ last-run s l → got (sheet-of p (slices-of plan) tape r) e ≡ sections s at
-  unfolding sections
-  all-read p i tape j plan l r e ep ed er el = rw (← ep, ← ed, ← er, ← el)
+  sections-by : (p : Problem) (i : ℕ) → got p i ≡ whole-problem s at → sections s at ≡ next (request s i) (λ q l. got (sheet-of p q) l)
+  unfolding sections request
+  sections-by p i ep = rw (← ep) (sym (first (λ tape j. routes s j) (λ plan l. last-run s l) (λ tape plan r. request-of tape (slices-of plan) r) (sheet-of p) (draws s i)))
 
 -- ---- the same of a sheet that is not too long
 
@@ -48,20 +52,8 @@ module _ (s : List ℕ) (short : length s ≤ 60000) where
   no-problem k e = problem-stops s 0 k e ∙ sheet-is
 
   module _ (p : Problem) (i : ℕ) (ep : got p i ≡ whole-problem s 0) where
-    pub no-draws : (k : ℕ) → refused k ≡ draws s i → refused k ≡ sheet s 0
-    no-draws k e = draws-stop s 0 p i k ep e ∙ sheet-is
+    pub no-request : (k : ℕ) → refused k ≡ request s i → refused k ≡ sheet s 0
+    no-request k e = next-refused (request s i) (λ q l. got (sheet-of p q) l) k e ∙ sym (sections-by s 0 p i ep) ∙ sheet-is
 
-    module _ (tape : List ℕ) (j : ℕ) (ed : got tape j ≡ draws s i) where
-      pub no-routes : (k : ℕ) → refused k ≡ map-reading slices-of (routes s j) → refused k ≡ sheet s 0
-      no-routes k e = routes-stop s 0 p i tape j k ep ed (refused-of slices-of (routes s j) e) ∙ sheet-is
-
-      module _ (plan : Slices) (l : ℕ) (er : got plan l ≡ map-reading slices-of (routes s j)) where
-        pub no-run : (k : ℕ) → refused k ≡ last-run s l → refused k ≡ sheet s 0
-        no-run k e =
-            let x = got-of slices-of (routes s j) er in
-            run-stops s 0 p i tape j (x .0) l k ep ed (x .1) e ∙ sheet-is
-
-        pub sheet-got : (r : Run) (e : ℕ) → got r e ≡ last-run s l → got (sheet-of p plan tape r) e ≡ sheet s 0
-        sheet-got r e el =
-            let x = got-of slices-of (routes s j) er in
-            ap (λ (z : Slices). got (sheet-of p z tape r) e) (x .2) ∙ all-read s 0 p i tape j (x .0) l r e ep ed (x .1) el ∙ sheet-is
+    pub sheet-got : (q : Request) (l : ℕ) → got q l ≡ request s i → got (sheet-of p q) l ≡ sheet s 0
+    sheet-got q l e = next-got (request s i) (λ q l. got (sheet-of p q) l) q l (got (sheet-of p q) l) e refl ∙ sym (sections-by s 0 p i ep) ∙ sheet-is

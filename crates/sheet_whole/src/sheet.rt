@@ -5,15 +5,11 @@ ghost use lib.ListN.{length};
 ghost use Rattle.sheet_format.specs.Form.{sheet as Form·sheet};
 ghost use Rattle.sheet_reader.specs.Cells.{columns-of, Room};
 ghost use Rattle.sheet_whole.specs.Whole.{told-sheet, SheetWithin};
+use crate::request::RequestAt;
+use crate::request::request;
 use sheet_problem::Head;
 use sheet_problem::ProblemAt;
 use sheet_problem::problem;
-use sheet_routes::routes::PlanAt;
-use sheet_routes::routes::draws;
-use sheet_routes::routes::routes;
-use sheet_run::RunAt;
-use sheet_run::last_run;
-use sheet_text::words::Count;
 
 // The head of the problem, how many draws, routes and stops there are, M, K, and the position after the sheet; or the number of a refusal.
 pub enum SheetAt {
@@ -60,30 +56,18 @@ pub fn sheet(
     match p {
         ProblemAt::Refused(k) => SheetAt::Refused(k),
         ProblemAt::Got(head, i) => {
-            let d = draws(tape, s, i);
-            match d {
-                Count::Refused(k) => SheetAt::Refused(k),
-                Count::Got(drawn, j) => {
-                    let q = routes(lengths, stops, s, j);
-                    match q {
-                        PlanAt::Refused(k) => SheetAt::Refused(k),
-                        PlanAt::Got(given, used, l) => {
-                            let r = last_run(s, l);
-                            match r {
-                                RunAt::Refused(k) => SheetAt::Refused(k),
-                                RunAt::Got(limit, clock, e) => SheetAt::Got(
-                                    head,
-                                    drawn,
-                                    given,
-                                    used,
-                                    limit,
-                                    clock,
-                                    e,
-                                ),
-                            }
-                        }
-                    }
-                }
+            let q = request(lengths, stops, tape, s, i);
+            match q {
+                RequestAt::Refused(k) => SheetAt::Refused(k),
+                RequestAt::Got(drawn, given, used, limit, clock, e) => SheetAt::Got(
+                    head,
+                    drawn,
+                    given,
+                    used,
+                    limit,
+                    clock,
+                    e,
+                ),
             }
         }
     }

@@ -1,8 +1,8 @@
 -- `stop_cell` meets its contract. Assumes nothing.
 use borrow.Author.Needs.{needs}
 use Rattle.laws.specs.Picks.{picks}
-use Rattle.sheet_routes.proofs.routes.stop_cell.Statement.{statement}
-use Rattle.sheet_routes.proofs.routes.stop_cell.Tie as tie
+use Rattle.sheet_cells.proofs.stop_cell.Statement.{statement}
+use Rattle.sheet_cells.proofs.stop_cell.Tie as tie
 
 cast-result : tie.Need-cast-result
 cast-result c = search needs
