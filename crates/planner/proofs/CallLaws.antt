@@ -13,7 +13,7 @@ use Rattle.local_search.specs.declared.rounds.Reduction.{Reduction}
 use Rattle.local_search.specs.Rounds.{Result}
 use Rattle.local_search.specs.Search.{Answers}
 use Rattle.route_minimization.specs.Minimize.{minimize-routes}
-use Rattle.route_minimization.specs.Minimizing.{Searching}
+use Rattle.minimization_search.specs.Minimizing.{Searching}
 use Rattle.ejection_pool.specs.Running.{allowance}
 use Rattle.elimination_moves.specs.Eliminate.{eliminate-routes}
 use Rattle.elimination_round.specs.Eliminating.{Eliminating}
