@@ -16,8 +16,8 @@ use call_words::well_formed;
 use call_words::words_at;
 use models::vehicle::Vehicle;
 use planner::calls::Replied;
-use planner::calls::eliminate;
-use planner::calls::minimise;
+use eliminate_call::eliminate;
+use minimise_call::minimise;
 
 // How a list ends: its words are malformed, or so many calls were run.
 pub enum Ran {

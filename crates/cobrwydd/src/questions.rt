@@ -365,7 +365,7 @@ pub extern "C" fn cobrwydd_lateness_bound(
         latest,
         duration,
     );
-    let answer = planner_questions::lateness_bound(
+    let answer = problem_questions::lateness_bound(
         n,
         demand,
         service,
@@ -423,7 +423,7 @@ pub extern "C" fn cobrwydd_gain_floor(
         latest,
         duration,
     );
-    let answer = planner_questions::gain_floor(
+    let answer = problem_questions::gain_floor(
         n,
         demand,
         service,
@@ -452,6 +452,6 @@ pub extern "C" fn cobrwydd_time_window_new(
     if fault != 0 {
         return fault;
     }
-    let window = planner_questions::time_window_new(ready, due);
+    let window = problem_questions::time_window_new(ready, due);
     put_window(out, found, window)
 }

@@ -1,3 +1,3 @@
--- What the functions' proofs lean on.
--- the search
+-- Laws that this crate's proofs cite.
+-- what the call answers
 pub mod MinimizeLaws

@@ -3,8 +3,6 @@
 pub mod Minimize
 -- what the search keeps
 pub mod Minimized
--- what the search asks for
-pub mod Minimizing
 -- the cost falls
 pub mod Falls
 -- every definition, opened for theorems by computation

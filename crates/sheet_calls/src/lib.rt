@@ -12,8 +12,8 @@ use listing_routes::put_listing;
 use local_search::rounds::Counts;
 use models::vehicle::Vehicle;
 use planner::calls::Replied;
-use planner::calls::eliminate;
-use planner::calls::minimise;
+use eliminate_call::eliminate;
+use minimise_call::minimise;
 
 // Eliminates and lists what is left, with the counts of the call before.
 fn list_eliminated(

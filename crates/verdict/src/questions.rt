@@ -136,7 +136,7 @@ fn ask(
         (now (distances .entry)) (now (times .entry)) vehicle) (now (route .entry)) x y z ⌝ }
 {
     if kind == 7 {
-        return of_number(planner_questions::lateness_bound(
+        return of_number(problem_questions::lateness_bound(
             n,
             demand,
             service,
@@ -150,7 +150,7 @@ fn ask(
         ));
     }
     if kind == 8 {
-        return of_number(planner_questions::gain_floor(
+        return of_number(problem_questions::gain_floor(
             n,
             demand,
             service,
@@ -164,7 +164,7 @@ fn ask(
         ));
     }
     if kind == 9 {
-        return of_window(planner_questions::time_window_new(x, y));
+        return of_window(problem_questions::time_window_new(x, y));
     }
     ask_of_route(
         kind,

@@ -1,9 +1,9 @@
 -- `joined_within` meets its contract.
 use Rattle.models.specs.Problem.{of-demand}
-use Rattle.tail_exchange.proofs.TailLaws.{cells-there, cells-stops, cells-within}
+use Rattle.joined_tails.proofs.JoinLaws.{cells-there, cells-stops, cells-within}
 use borrow.Author.Needs.{needs}
-use Rattle.tail_exchange.proofs.joined_within.Statement.{statement}
-use Rattle.tail_exchange.proofs.joined_within.Tie as tie
+use Rattle.joined_tails.proofs.joined_within.Statement.{statement}
+use Rattle.joined_tails.proofs.joined_within.Tie as tie
 
 join-requires : tie.Need-join-requires
 join-requires c κs = search needs

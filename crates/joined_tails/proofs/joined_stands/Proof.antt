@@ -1,9 +1,9 @@
 -- `joined_stands` meets its contract.
 use Prim.Native.Nat.{zero-le}
-use Rattle.tail_exchange.proofs.TailLaws.{cells-none, cells-there, cells-stops, cells-feasible}
+use Rattle.joined_tails.proofs.JoinLaws.{cells-none, cells-there, cells-stops, cells-feasible}
 use borrow.Author.Needs.{needs}
-use Rattle.tail_exchange.proofs.joined_stands.Statement.{statement}
-use Rattle.tail_exchange.proofs.joined_stands.Tie as tie
+use Rattle.joined_tails.proofs.joined_stands.Statement.{statement}
+use Rattle.joined_tails.proofs.joined_stands.Tie as tie
 
 join-requires : tie.Need-join-requires
 join-requires c κs =

@@ -12,9 +12,9 @@ use Rattle.local_search.proofs.SearchLaws.{Rounding, Trying, rounding-start, ro
 use Rattle.pool_attempt.specs.Attempt.{attempt}
 use Rattle.minimization_round.specs.Attempted.{attempt-reduces}
 use Rattle.minimization_round.proofs.NextLaws.{round-cost}
-use Rattle.route_minimization.proofs.MinimizeLaws.{trying-attempt}
-use Rattle.route_minimization.proofs.search.Statement.{statement}
-use Rattle.route_minimization.proofs.search.Tie as tie
+use Rattle.minimization_search.proofs.SearchLaws.{trying-attempt}
+use Rattle.minimization_search.proofs.search.Statement.{statement}
+use Rattle.minimization_search.proofs.search.Tie as tie
 
 abbrev Inv-loop : tie.InvT-loop
 Inv-loop lengths₀ stops₀ work₀ cells₀ tape limit clock needed vehicle demand n distances times service ready due penalty flags counts₀ round count last₀ lengths stops work cells counts last =

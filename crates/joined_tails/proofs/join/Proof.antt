@@ -1,8 +1,8 @@
 -- `join` meets its contract.
 use borrow.Author.Needs.{needs}
-use Rattle.tail_exchange.proofs.TailLaws.{join-laws, front-there, front-read, tail-read, joined-there, joined-cells, joined-count}
-use Rattle.tail_exchange.proofs.join.Statement.{statement}
-use Rattle.tail_exchange.proofs.join.Tie as tie
+use Rattle.joined_tails.proofs.JoinLaws.{join-laws, front-there, front-read, tail-read, joined-there, joined-cells, joined-count}
+use Rattle.joined_tails.proofs.join.Statement.{statement}
+use Rattle.joined_tails.proofs.join.Tie as tie
 
 offset-requires : tie.Need-offset-requires
 offset-requires c κs = search join-laws

@@ -1,0 +1,3 @@
+-- Laws that this crate's proofs cite.
+-- a front and a tail joined
+pub mod JoinLaws

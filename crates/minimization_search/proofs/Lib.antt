@@ -1,0 +1,3 @@
+-- Laws that this crate's proofs cite.
+-- what an attempt asks for
+pub mod SearchLaws

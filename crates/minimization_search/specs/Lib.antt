@@ -1,0 +1,2 @@
+-- What the search asks for.
+pub mod Minimizing
