@@ -1,5 +1,5 @@
 //! Stored answers of the original for the program `replay` (crates/replay), as numbers in decimal: the form is said in the head comments of its
-//! src/cases.rt and src/calls.rt.
+//! src/cases.rt and of crate replayed_calls.
 
 use crate::answers::longest;
 use crate::cases;

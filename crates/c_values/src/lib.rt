@@ -1,3 +1,3 @@
-// The values of the C interface: a vehicle made of numbers, and answers written into slices.
-pub mod answers;
+// The values of the C interface: a vehicle made of numbers, and whether the slices for an answer have its lengths.
+pub mod fits;
 pub mod vehicle;

@@ -25,7 +25,7 @@ use Rattle.planner.specs.Told.{work-of}
 use Rattle.planner.specs.Run.{Call, minimise, eliminate, call, run, Claim}
 use Rattle.call_words.specs.Words.{Buffers, plan-slices, both-slices, words-first, words-of, call-of, decoded, count-of, calls-in, kind-passes, call-passes, calls-pass, well-formed, answer-words, answer-in, answer-row, slices-row, recorded, rows, put, words-at}
 use Rattle.call_lists.specs.Lists.{last-slices, replies-in, All-run}
-use Rattle.call_lists.specs.Recording.{Next, reply-at, Recorded}
+use Rattle.recorded_call.specs.Recording.{Next, reply-at, Recorded}
 use Rattle.planner.proofs.Demand3.{demand-3}
 use Rattle.call_words.proofs.FormLaws.{words-more}
 

@@ -1,5 +1,3 @@
--- Lists of calls in code. A file uses only files above it in this list.
+-- Lists of calls in code.
 -- what is promised of a run
 pub mod Lists
--- one call of such a list, run and recorded
-pub mod Recording

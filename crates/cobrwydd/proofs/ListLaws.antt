@@ -11,6 +11,7 @@ use Rattle.call_lists.specs.declared.Ran.the-variants.{Malformed, Done as RanAl
 use Rattle.call_words.specs.Words.{Buffers, well-formed}
 use Rattle.call_lists.specs.Lists.{Untouched, All-run, Leaves}
 use Rattle.c_values.specs.Said.{misfit}
+use Rattle.c_reports.specs.Reports.{ran-code}
 use Rattle.cobrwydd.specs.Lists.{list-code, Ran-list}
 
 -- where the test of `given` leaves 101 and where it leaves 0
@@ -42,8 +43,6 @@ module _ (given : ℕ) (calls tapes : List ℕ) (before : Buffers) (m : ℕ) (e 
       all-run : (n : ℕ) → All-run n p calls tapes before after → Ran-list 0 given p calls tapes before after
       all-run n a = record { number = formed-code h true (a .formed); ran = λ _. rw (← a .count) a; kept = λ z. absurd (z refl) }
 
-      pub list-malformed : (r : Ran) → r ≡ Malformed → Leaves r p calls tapes before after → Ran-list 102 given p calls tapes before after
-      list-malformed r f l = malformed (rw f at l)
-
-      pub list-run : (r : Ran) (n : ℕ) → r ≡ RanAll n → Leaves r p calls tapes before after → Ran-list 0 given p calls tapes before after
-      list-run r n f l = all-run n (rw f at l)
+      pub list-told : (r : Ran) (code : ℕ) → code ≡ ran-code r → Leaves r p calls tapes before after → Ran-list code given p calls tapes before after
+      list-told Malformed code f l = rw f (malformed l)
+      list-told (RanAll n) code f l = rw f (all-run n l)

@@ -8,10 +8,9 @@ ghost use Rattle.planner.specs.Calls.{public-minimise, public-eliminate};
 ghost use Rattle.planner.specs.Told.{slices-of, work-of};
 ghost use Rattle.c_values.specs.VehicleOf.{vehicle-of};
 ghost use Rattle.c_values.specs.Said.{replies, plan-call, Free-if-done};
-use c_values::answers::misfit;
-use c_values::answers::put_reply;
+use c_answers::put_reply;
+use c_values::fits::reply_misfit;
 use c_values::vehicle::vehicle_of;
-use planner::calls;
 
 // Fewer routes by an ejection pool: at most `limit` steps in an attempt, draws from the tape, a clock that stops the call after `clock` steps.
 #[no_mangle]
@@ -50,7 +49,7 @@ pub extern "C" fn cobrwydd_minimise(
     ensures work { λ r. ⌜ Free-if-done r (now (work .entry)) (now (work .exit)) ⌝ }
     ensures cells { λ r. ⌜ Free-if-done r (now (cells .entry)) (now (cells .exit)) ⌝ }
 {
-    let fault = misfit(0, 0, counts.len(), 3, given);
+    let fault = reply_misfit(counts.len(), given);
     if fault != 0 {
         return fault;
     }
@@ -66,7 +65,7 @@ pub extern "C" fn cobrwydd_minimise(
         latest,
         duration,
     );
-    let reply = calls::minimise(
+    let reply = minimise_call::minimise(
         lengths,
         stops,
         work,
@@ -121,7 +120,7 @@ pub extern "C" fn cobrwydd_eliminate(
         (slices-of (now (lengths .entry)) (now (stops .entry))) (work-of (length (now (work .entry))) (length (now (cells .entry))))) ⌝ }
     ensures work { λ r. ⌜ Free-if-done r (now (work .entry)) (now (work .exit)) ⌝ }
 {
-    let fault = misfit(0, 0, counts.len(), 3, given);
+    let fault = reply_misfit(counts.len(), given);
     if fault != 0 {
         return fault;
     }
@@ -137,7 +136,7 @@ pub extern "C" fn cobrwydd_eliminate(
         latest,
         duration,
     );
-    let reply = calls::eliminate(
+    let reply = eliminate_call::eliminate(
         lengths,
         stops,
         work,

@@ -4,9 +4,9 @@ ghost use Rattle.models.specs.Problem.{problem};
 ghost use Rattle.call_words.specs.Words.{buffers};
 ghost use Rattle.c_values.specs.VehicleOf.{vehicle-of};
 ghost use Rattle.cobrwydd.specs.Lists.{Ran-list};
-use c_values::answers::misfit;
+use c_reports::ran_code;
+use c_values::fits::list_misfit;
 use c_values::vehicle::vehicle_of;
-use call_lists::Ran;
 
 // The calls that `calls` and `tapes` ask for: six words of `calls` for each (kind, M, K, words of its tape, u16 and f64 work cells), the tapes one after the
 // other. Four words of `answers` for each (refusal or 0, routes, steps, draws), and in `history` the lengths and stops after it. 102 where the words or
@@ -45,7 +45,7 @@ pub extern "C" fn cobrwydd_run_calls(
         (now (distances .entry)) (now (times .entry)) (vehicle-of capacity depot «fixed_cost» «cost_per_distance» given «max_distance» «max_duration» earliest latest duration))
         (now (calls .entry)) (now (tapes .entry)) (buffers (now (lengths .entry)) (now (stops .entry)) (now (work .entry)) (now (cells .entry)) (now (answers .entry)) (now (history .entry))) (buffers (now (lengths .exit)) (now (stops .exit)) (now (work .exit)) (now (cells .exit)) (now (answers .exit)) (now (history .exit))) ⌝ }
 {
-    let fault = misfit(0, 0, 0, 0, given);
+    let fault = list_misfit(given);
     if fault != 0 {
         return fault;
     }
@@ -81,8 +81,5 @@ pub extern "C" fn cobrwydd_run_calls(
         times,
         vehicle,
     );
-    match ran {
-        Ran::Malformed => 102,
-        Ran::Done(_) => 0,
-    }
+    ran_code(ran)
 }

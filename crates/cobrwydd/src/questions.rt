@@ -7,11 +7,14 @@ ghost use Rattle.models.specs.Problem.{problem};
 ghost use Rattle.planner.specs.Calls.{answered, public-route-feasible, public-route-eval, public-effective-cost, public-schedule, public-route-distance, public-lateness-bound, public-gain-floor, public-time-window-new};
 ghost use Rattle.c_values.specs.VehicleOf.{vehicle-of};
 ghost use Rattle.c_values.specs.Said.{values, says, question, checked-values, number-values, eval-values, window-values};
-use c_values::answers::misfit;
-use c_values::answers::put_checked;
-use c_values::answers::put_evaluated;
-use c_values::answers::put_number;
-use c_values::answers::put_window;
+use c_answers::put_checked;
+use c_answers::put_evaluated;
+use c_answers::put_number;
+use c_answers::put_window;
+use c_values::fits::checked_misfit;
+use c_values::fits::evaluated_misfit;
+use c_values::fits::number_misfit;
+use c_values::fits::window_misfit;
 use c_values::vehicle::vehicle_of;
 use models::vehicle::VehicleBreak;
 
@@ -43,7 +46,7 @@ pub extern "C" fn cobrwydd_route_feasible(
     ensures { λ r. ⌜ says r [] (now (found .exit)) ≡ question checked-values 0 1 given (values [] (now (found .entry))) (public-route-feasible (problem n (now (demand .entry)) (now (service .entry)) (now (ready .entry)) (now (due .entry)) (now (penalty .entry)) (now (flags .entry))
         (now (distances .entry)) (now (times .entry)) (vehicle-of capacity depot «fixed_cost» «cost_per_distance» given «max_distance» «max_duration» earliest latest duration)) (now (route .entry))) ⌝ }
 {
-    let fault = misfit(0, 0, found.len(), 1, given);
+    let fault = checked_misfit(found.len(), given);
     if fault != 0 {
         return fault;
     }
@@ -104,7 +107,7 @@ pub extern "C" fn cobrwydd_route_eval(
     ensures { λ r. ⌜ says r (now (out .exit)) (now (found .exit)) ≡ question eval-values 5 3 given (values (now (out .entry)) (now (found .entry))) (public-route-eval (problem n (now (demand .entry)) (now (service .entry)) (now (ready .entry)) (now (due .entry)) (now (penalty .entry)) (now (flags .entry))
         (now (distances .entry)) (now (times .entry)) (vehicle-of capacity depot «fixed_cost» «cost_per_distance» given «max_distance» «max_duration» earliest latest duration)) (now (route .entry))) ⌝ }
 {
-    let fault = misfit(out.len(), 5, found.len(), 3, given);
+    let fault = evaluated_misfit(out.len(), found.len(), given);
     if fault != 0 {
         return fault;
     }
@@ -164,7 +167,7 @@ pub extern "C" fn cobrwydd_effective_cost(
     ensures { λ r. ⌜ says r (now (out .exit)) [] ≡ question number-values 1 0 given (values (now (out .entry)) []) (public-effective-cost (problem n (now (demand .entry)) (now (service .entry)) (now (ready .entry)) (now (due .entry)) (now (penalty .entry)) (now (flags .entry))
         (now (distances .entry)) (now (times .entry)) (vehicle-of capacity depot «fixed_cost» «cost_per_distance» given «max_distance» «max_duration» earliest latest duration)) (now (route .entry))) ⌝ }
 {
-    let fault = misfit(out.len(), 1, 0, 0, given);
+    let fault = number_misfit(out.len(), given);
     if fault != 0 {
         return fault;
     }
@@ -228,7 +231,7 @@ pub extern "C" fn cobrwydd_schedule(
     ensures { λ r. ⌜ says r (now (out .exit)) (now (found .exit)) ≡ question eval-values 5 3 given (values (now (out .entry)) (now (found .entry))) (public-schedule (problem n (now (demand .entry)) (now (service .entry)) (now (ready .entry)) (now (due .entry)) (now (penalty .entry)) (now (flags .entry))
         (now (distances .entry)) (now (times .entry)) (vehicle-of capacity depot «fixed_cost» «cost_per_distance» given «max_distance» «max_duration» earliest latest duration)) (vehicle-break-new «break_earliest» «break_latest» «break_duration») (now (route .entry))) ⌝ }
 {
-    let fault = misfit(out.len(), 5, found.len(), 3, given);
+    let fault = evaluated_misfit(out.len(), found.len(), given);
     if fault != 0 {
         return fault;
     }
@@ -290,7 +293,7 @@ pub extern "C" fn cobrwydd_route_distance(
     ensures { λ r. ⌜ says r (now (out .exit)) [] ≡ question number-values 1 0 given (values (now (out .entry)) []) (public-route-distance (problem n (now (demand .entry)) (now (service .entry)) (now (ready .entry)) (now (due .entry)) (now (penalty .entry)) (now (flags .entry))
         (now (distances .entry)) (now (times .entry)) (vehicle-of capacity depot «fixed_cost» «cost_per_distance» given «max_distance» «max_duration» earliest latest duration)) (now (route .entry))) ⌝ }
 {
-    let fault = misfit(out.len(), 1, 0, 0, given);
+    let fault = number_misfit(out.len(), given);
     if fault != 0 {
         return fault;
     }
@@ -349,7 +352,7 @@ pub extern "C" fn cobrwydd_lateness_bound(
     ensures { λ r. ⌜ says r (now (out .exit)) [] ≡ question number-values 1 0 given (values (now (out .entry)) []) (public-lateness-bound (problem n (now (demand .entry)) (now (service .entry)) (now (ready .entry)) (now (due .entry)) (now (penalty .entry)) (now (flags .entry))
         (now (distances .entry)) (now (times .entry)) (vehicle-of capacity depot «fixed_cost» «cost_per_distance» given «max_distance» «max_duration» earliest latest duration))) ⌝ }
 {
-    let fault = misfit(out.len(), 1, 0, 0, given);
+    let fault = number_misfit(out.len(), given);
     if fault != 0 {
         return fault;
     }
@@ -407,7 +410,7 @@ pub extern "C" fn cobrwydd_gain_floor(
     ensures { λ r. ⌜ says r (now (out .exit)) [] ≡ question number-values 1 0 given (values (now (out .entry)) []) (public-gain-floor (problem n (now (demand .entry)) (now (service .entry)) (now (ready .entry)) (now (due .entry)) (now (penalty .entry)) (now (flags .entry))
         (now (distances .entry)) (now (times .entry)) (vehicle-of capacity depot «fixed_cost» «cost_per_distance» given «max_distance» «max_duration» earliest latest duration))) ⌝ }
 {
-    let fault = misfit(out.len(), 1, 0, 0, given);
+    let fault = number_misfit(out.len(), given);
     if fault != 0 {
         return fault;
     }
@@ -448,7 +451,7 @@ pub extern "C" fn cobrwydd_time_window_new(
 ) -> u8
     ensures { λ r. ⌜ says r (now (out .exit)) (now (found .exit)) ≡ question window-values 2 1 0 (values (now (out .entry)) (now (found .entry))) (answered (public-time-window-new ready due)) ⌝ }
 {
-    let fault = misfit(out.len(), 2, found.len(), 1, 0);
+    let fault = window_misfit(out.len(), found.len());
     if fault != 0 {
         return fault;
     }

@@ -2,7 +2,8 @@
 ghost use mathlib.Core.Path.{_≡_};
 ghost use Rattle.sheet_answers.specs.Printed.{printed};
 ghost use Rattle.cobrwydd.specs.Sheets.{prints, sheet-call};
-use sheet_planner::Printed;
+use c_reports::put_printed;
+use c_values::fits::sheet_misfit;
 use sheet_planner::plan_sheet;
 
 // What a text prints, its listing or the line of its refusal, in `out`, and in written[0] how many bytes that are.
@@ -10,18 +11,10 @@ use sheet_planner::plan_sheet;
 pub extern "C" fn cobrwydd_plan_sheet(out: &mut [u8], written: &mut [u64], text: &[u8]) -> u8
     ensures { λ r. ⌜ prints r (now (out .exit)) (now (written .exit)) ≡ sheet-call (now (out .entry)) (now (written .entry)) (printed (now (text .entry))) ⌝ }
 {
-    if out.len() != 6000 {
-        return 100;
-    }
-    if written.len() != 1 {
-        return 100;
+    let fault = sheet_misfit(out.len(), written.len());
+    if fault != 0 {
+        return fault;
     }
     let p = plan_sheet(out, text);
-    match p {
-        Printed::NoRoom => 100,
-        Printed::Bytes(n) => {
-            written[0] = n as u64;
-            0
-        }
-    }
+    put_printed(written, p)
 }

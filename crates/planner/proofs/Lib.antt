@@ -1,4 +1,4 @@
--- Laws of lists of calls, and of the two calls in code.
+-- Laws of lists of calls, and of the replies.
 -- demand 3
 pub mod Demand3
 -- refused and answered calls

@@ -150,3 +150,8 @@ answers =
 pub cases-hold : map asked questions ≡ answers
 unfolding opened asked questions answers one-stop sheet work minimised two-routes three-routes replied
 cases-hold = refl
+
+-- Beside the twelve: eliminate alone takes a route of the sheet apart.
+eliminate-alone : asked (runs (sheet 0 NoLimit) two-routes (eliminate work ∷ [])) ≡ replies (replied 1 0 0 (2 ∷ 0 ∷ []) (1 ∷ 2 ∷ []) ∷ [])
+unfolding opened asked sheet work two-routes replied
+eliminate-alone = refl

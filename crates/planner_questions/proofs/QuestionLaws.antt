@@ -1,9 +1,9 @@
--- The questions: what a refused one says, what an accepted one may rely on and what it answers. Assumes nothing.
+-- The questions about a route: what a refused one says, what an accepted one may rely on and what it answers. Assumes nothing.
 use Prim.Native.Nat.{ℕ, zero, suc, _≤_, _<_, _*_}
 use mathlib.Core.Path.{_≡_, refl, sym, ap, _∙_}
 use mathlib.Core.Bool.{Bool}
 use mathlib.Core.List.{List, []}
-use mathlib.Core.Option.{Option, none, some}
+use mathlib.Core.Option.{Option}
 use lib.ListN.{length}
 use lib.Ieee.{Float}
 use Rattle.models.specs.declared.vehicle.VehicleBreak.{VehicleBreak}
@@ -15,46 +15,23 @@ use Rattle.break_clock.specs.declared.route_eval.Eval.{Eval}
 use Rattle.break_clock.specs.Schedule.{schedule}
 use Rattle.evaluation.specs.Eval.{route-eval, effective-cost}
 use Rattle.evaluation.specs.Check.{route-feasible}
-use Rattle.lateness_bound.specs.Bound.{lateness-bound}
-use Rattle.route_cost.specs.Route.{route-distance, gain-floor}
+use Rattle.route_cost.specs.Route.{route-distance}
 use Rattle.local_search.proofs.ReadLaws.{distance-any}
 use Rattle.entry.specs.Table.{refusal}
-use Rattle.entry.specs.Given.{numbered, problem-inputs, route-inputs, schedule-inputs}
-use Rattle.entry.proofs.AdmittedLaws.{not-refused, problem-accepted, route-accepted, schedule-accepted}
-use Rattle.planner.specs.Calls.{Answer, refused, answered, unless-refused, public-route-feasible, public-route-eval, public-effective-cost, public-schedule, public-route-distance, public-lateness-bound, public-gain-floor}
+use Rattle.entry.specs.Given.{numbered, route-inputs, schedule-inputs}
+use Rattle.entry.proofs.AdmittedLaws.{not-refused, route-accepted, schedule-accepted}
+use Rattle.planner.specs.Calls.{refused, answered, unless-refused, public-route-feasible, public-route-eval, public-effective-cost, public-schedule, public-route-distance}
 
 -- ---- the code's number and the answer
 
-refuses : {A : Type 0} (r : ℕ) (o : Option ℕ) (a : A) → numbered r ≡ o → (r ≡ 0 → ⊥) → refused r ≡ unless-refused o a
+pub refuses : {A : Type 0} (r : ℕ) (o : Option ℕ) (a : A) → numbered r ≡ o → (r ≡ 0 → ⊥) → refused r ≡ unless-refused o a
 refuses zero o a e h = absurd (h refl)
 refuses (suc r) o a e h = ap (λ (x : Option ℕ). unless-refused x a) e
 
-answers : {A : Type 0} (r : ℕ) (o : Option ℕ) (x a : A) → numbered r ≡ o → r ≡ 0 → x ≡ a → answered x ≡ unless-refused o a
+pub answers : {A : Type 0} (r : ℕ) (o : Option ℕ) (x a : A) → numbered r ≡ o → r ≡ 0 → x ≡ a → answered x ≡ unless-refused o a
 answers r o x a e h f = ap answered f ∙ ap (λ (y : Option ℕ). unless-refused y a) (sym (ap numbered h) ∙ e)
 
 module _ (p : Problem) (r : ℕ) where
-  -- ---- questions about the problem
-  module _ (e : numbered r ≡ refusal (problem-inputs p)) where
-    pub bound-refused : (r ≡ 0 → ⊥) → refused r ≡ public-lateness-bound p
-    unfolding public-lateness-bound
-    bound-refused h = refuses r _ _ e h
-
-    pub floor-refused : (r ≡ 0 → ⊥) → refused r ≡ public-gain-floor p
-    unfolding public-gain-floor
-    floor-refused h = refuses r _ _ e h
-
-    module _ (h : r ≡ 0) where
-      pub problem-fit : Fit (p .places) (p .roads)
-      problem-fit = valid-fit p (problem-accepted p (not-refused r _ e h))
-
-      pub bound-answered : (x : Float) → x ≡ lateness-bound (p .places) (p .roads) → answered x ≡ public-lateness-bound p
-      unfolding public-lateness-bound
-      bound-answered x f = answers r _ x _ e h f
-
-      pub floor-answered : (x : Float) → x ≡ gain-floor (matrix 0 (p .roads .distances) []) → answered x ≡ public-gain-floor p
-      unfolding public-gain-floor
-      floor-answered x f = answers r _ x _ e h f
-
   -- ---- questions about a route
   module _ (route : List ℕ) where
     module _ (e : numbered r ≡ refusal (route-inputs p route)) where

@@ -1,17 +1,13 @@
-// The questions about one route or about the problem: each is refused by the table, or answers.
+// The questions about one route: each is refused by the table, or answers. Those about the problem are in problem_questions.
 ghost use mathlib.Core.Path.{_≡_};
 ghost use Rattle.models.specs.Problem.{problem};
-ghost use Rattle.planner.specs.Calls.{public-route-feasible, public-route-eval, public-effective-cost, public-schedule, public-route-distance, public-lateness-bound, public-gain-floor, public-time-window-new};
+ghost use Rattle.planner.specs.Calls.{public-route-feasible, public-route-eval, public-effective-cost, public-schedule, public-route-distance};
 ghost use Rattle.planner_questions.specs.Told.{checked-told, evaluated-told, number-told};
 use break_clock::route_eval::Eval;
 use evaluation::check;
-use lateness_bound::bound;
-use models::customer::TimeWindow;
-use models::customer::Window;
 use models::limits::RouteLimits;
 use models::vehicle::Vehicle;
 use models::vehicle::VehicleBreak;
-use refusals::calls::problem_refusal;
 use refusals::calls::route_refusal;
 use refusals::calls::schedule_refusal;
 
@@ -217,76 +213,6 @@ pub fn route_distance(
     Number::Answered(distance)
 }
 
-// The bound on the lateness cost of a route.
-pub fn lateness_bound(
-    n: usize,
-    demand: &[i32],
-    service: &[f64],
-    ready: &[f64],
-    due: &[f64],
-    penalty: &[f64],
-    flags: &[u8],
-    distances: &[f64],
-    times: &[f64],
-    vehicle: Vehicle,
-) -> Number
-    ensures { λ a. ⌜ number-told a ≡ public-lateness-bound (problem n (now (demand .entry)) (now (service .entry)) (now (ready .entry)) (now (due .entry)) (now (penalty .entry)) (now (flags .entry))
-        (now (distances .entry)) (now (times .entry)) vehicle) ⌝ }
-{
-    let r = problem_refusal(
-        n,
-        demand,
-        service,
-        ready,
-        due,
-        penalty,
-        flags,
-        distances,
-        times,
-        vehicle,
-    );
-    if r != 0 {
-        return Number::Refused(r);
-    }
-    let most = bound::lateness_bound(n, distances, times, service, ready, due, penalty, flags);
-    Number::Answered(most)
-}
-
-// The least gain that counts as one.
-pub fn gain_floor(
-    n: usize,
-    demand: &[i32],
-    service: &[f64],
-    ready: &[f64],
-    due: &[f64],
-    penalty: &[f64],
-    flags: &[u8],
-    distances: &[f64],
-    times: &[f64],
-    vehicle: Vehicle,
-) -> Number
-    ensures { λ a. ⌜ number-told a ≡ public-gain-floor (problem n (now (demand .entry)) (now (service .entry)) (now (ready .entry)) (now (due .entry)) (now (penalty .entry)) (now (flags .entry))
-        (now (distances .entry)) (now (times .entry)) vehicle) ⌝ }
-{
-    let r = problem_refusal(
-        n,
-        demand,
-        service,
-        ready,
-        due,
-        penalty,
-        flags,
-        distances,
-        times,
-        vehicle,
-    );
-    if r != 0 {
-        return Number::Refused(r);
-    }
-    let floor = route_cost::gain_floor(distances);
-    Number::Answered(floor)
-}
-
 // The schedule of a route with the break that is given, without limits.
 pub fn schedule(
     route: &[u16],
@@ -336,11 +262,4 @@ pub fn schedule(
         flags,
     );
     Evaluated::Answered(timed)
-}
-
-// A window of two finite numbers in order. It is never refused.
-pub fn time_window_new(ready: f64, due: f64) -> Window
-    ensures { λ a. ⌜ a ≡ public-time-window-new ready due ⌝ }
-{
-    TimeWindow::new(ready, due)
 }

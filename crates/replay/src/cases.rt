@@ -1,11 +1,11 @@
 // One stored case: a problem, a first plan and calls, each on the plan as the last one left it. A case is N, the vehicle, the slices demand, flags, service,
-// ready, due, penalty, distances, times, lengths and stops, the number of calls, and the calls (calls.rt). Floats stand by their bits, demand and
+// ready, due, penalty, distances, times, lengths and stops, the number of calls, and the calls (crate replayed_calls). Floats stand by their bits, demand and
 // capacity by their two's complement of 32 bits. The vehicle is capacity, depot, fixed cost, cost per distance, and after a 0 or 1 that says whether it is
 // there the distance limit, the duration limit and the break (earliest, latest, duration); a value that is not there is 0.
-use crate::calls::call_at;
 use models::vehicle::Limit;
 use models::vehicle::Rest;
 use models::vehicle::Vehicle;
+use replayed_calls::call_at;
 use stored::slices::read_f64;
 use stored::slices::read_i32;
 use stored::slices::read_u8;

@@ -3,9 +3,7 @@
 ghost use mathlib.Core.Path.{_≡_};
 ghost use lib.ListN.{length};
 
-mod calls;
 mod cases;
-mod tally;
 
 use cases::case_at;
 use stored::text::FAULT;

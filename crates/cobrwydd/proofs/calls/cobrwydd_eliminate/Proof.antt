@@ -6,11 +6,11 @@ use mathlib.Core.Path.{refl}
 use Rattle.cobrwydd.proofs.calls.cobrwydd_eliminate.Statement.{statement}
 use Rattle.cobrwydd.proofs.calls.cobrwydd_eliminate.Tie as tie
 
-misfit-requires : tie.Need-misfit-requires
-misfit-requires c κs = search needs
+reply-misfit-requires : tie.Need-reply-misfit-requires
+reply-misfit-requires c κs = search needs
 
 returns : tie.Need-returns
-returns c = (misfit-replied _ _ _ _ (c .before .misfit .ensures) _ (c .if1 .taken), λ _. refl)
+returns c = (misfit-replied _ _ _ _ (c .before .reply-misfit .ensures) _ (c .if1 .taken), λ _. refl)
 
 vehicle-of-requires : tie.Need-vehicle-of-requires
 vehicle-of-requires c κs = search needs
@@ -19,7 +19,7 @@ eliminate-requires : tie.Need-eliminate-requires
 eliminate-requires c κs = search needs
 
 put-reply-requires : tie.Need-put-reply-requires
-put-reply-requires c κs = numbers-fit _ _ _ _ _ _ (c .before .before .before .before .before .before .before .before .before .before .before .before .before .misfit .ensures) (c .before .before .before .before .before .before .before .before .before .before .before .before .if1 .left)
+put-reply-requires c κs = numbers-fit _ _ _ _ _ _ (c .before .before .before .before .before .before .before .before .before .before .before .before .before .reply-misfit .ensures) (c .before .before .before .before .before .before .before .before .before .before .before .before .if1 .left)
 
 same-length : tie.Need-same-length
 same-length c = search needs
@@ -37,13 +37,13 @@ returns-2 : tie.Need-returns-2
 returns-2 c =
     let r = c .before .before .before .before .before .before .before .before .before .before .eliminate in
     let s = c .before .before .put-reply .ensures in
-    (rw (← vehicle-kept _ _ _ _ _ _ _ _ _ _ (c .before .before .before .before .before .before .before .before .before .before .before .before .before .before .before .before .before .before .before .before .before .before .before .before .before .before .before .before .before .fits .capacity) _ (c .before .before .before .before .before .before .before .before .before .before .before .before .before .before .vehicle-of .ensures)) (call-replied _ _ _ _ (c .before .before .before .before .before .before .before .before .before .before .before .before .before .before .before .before .misfit .ensures) (c .before .before .before .before .before .before .before .before .before .before .before .before .before .before .before .if1 .left) _ _ _ _ _ (c .before .before .put-reply .ensures) (c .before .before .before .before .before .before .before .before .before .before .eliminate .ensures .0)), reply-free (r .result) _ _ _ _ _ s (r .ensures .1))
+    (rw (← vehicle-kept _ _ _ _ _ _ _ _ _ _ (c .before .before .before .before .before .before .before .before .before .before .before .before .before .before .before .before .before .before .before .before .before .before .before .before .before .before .before .before .before .fits .capacity) _ (c .before .before .before .before .before .before .before .before .before .before .before .before .before .before .vehicle-of .ensures)) (call-replied _ _ _ _ (c .before .before .before .before .before .before .before .before .before .before .before .before .before .before .before .before .reply-misfit .ensures) (c .before .before .before .before .before .before .before .before .before .before .before .before .before .before .before .if1 .left) _ _ _ _ _ (c .before .before .put-reply .ensures) (c .before .before .before .before .before .before .before .before .before .before .eliminate .ensures .0)), reply-free (r .result) _ _ _ _ _ s (r .ensures .1))
 
 pub cobrwydd-eliminate-spec : {M : Type 1} → statement M
 cobrwydd-eliminate-spec =
     tie.close
     (tie.spec
-    misfit-requires
+    reply-misfit-requires
     returns
     vehicle-of-requires
     eliminate-requires

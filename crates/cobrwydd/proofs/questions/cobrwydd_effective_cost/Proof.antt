@@ -5,11 +5,11 @@ use borrow.Author.Needs.{needs}
 use Rattle.cobrwydd.proofs.questions.cobrwydd_effective_cost.Statement.{statement}
 use Rattle.cobrwydd.proofs.questions.cobrwydd_effective_cost.Tie as tie
 
-misfit-requires : tie.Need-misfit-requires
-misfit-requires c κs = search needs
+number-misfit-requires : tie.Need-number-misfit-requires
+number-misfit-requires c κs = search needs
 
 returns : tie.Need-returns
-returns c = misfit-said _ _ _ _ _ _ _ (c .before .misfit .ensures) _ (c .if1 .taken)
+returns c = misfit-said _ _ _ _ _ _ _ (c .before .number-misfit .ensures) _ (c .if1 .taken)
 
 vehicle-of-requires : tie.Need-vehicle-of-requires
 vehicle-of-requires c κs = search needs
@@ -18,19 +18,19 @@ effective-cost-requires : tie.Need-effective-cost-requires
 effective-cost-requires c κs = search needs
 
 put-number-requires : tie.Need-put-number-requires
-put-number-requires c κs = floats-fit _ _ _ _ _ _ (c .before .before .before .before .misfit .ensures) (c .before .before .before .if1 .left)
+put-number-requires c κs = floats-fit _ _ _ _ _ _ (c .before .before .before .before .number-misfit .ensures) (c .before .before .before .if1 .left)
 
 same-length : tie.Need-same-length
 same-length c = search needs
 
 returns-2 : tie.Need-returns-2
-returns-2 c = rw (← vehicle-kept _ _ _ _ _ _ _ _ _ _ (c .before .before .before .before .before .before .before .before .before .before .before .before .before .before .before .before .before .fits .capacity) _ (c .before .before .before .before .before .vehicle-of .ensures)) (answer-said _ _ _ _ _ _ _ (c .before .before .before .before .before .before .before .misfit .ensures) (c .before .before .before .before .before .before .if1 .left) _ _ _ _ _ (c .before .before .put-number .ensures) (c .before .before .before .before .effective-cost .ensures))
+returns-2 c = rw (← vehicle-kept _ _ _ _ _ _ _ _ _ _ (c .before .before .before .before .before .before .before .before .before .before .before .before .before .before .before .before .before .fits .capacity) _ (c .before .before .before .before .before .vehicle-of .ensures)) (answer-said _ _ _ _ _ _ _ (c .before .before .before .before .before .before .before .number-misfit .ensures) (c .before .before .before .before .before .before .if1 .left) _ _ _ _ _ (c .before .before .put-number .ensures) (c .before .before .before .before .effective-cost .ensures))
 
 pub cobrwydd-effective-cost-spec : {M : Type 1} → statement M
 cobrwydd-effective-cost-spec =
     tie.close
     (tie.spec
-    misfit-requires
+    number-misfit-requires
     returns
     vehicle-of-requires
     effective-cost-requires

@@ -5,11 +5,11 @@ use borrow.Author.Needs.{needs}
 use Rattle.cobrwydd.proofs.questions.cobrwydd_route_eval.Statement.{statement}
 use Rattle.cobrwydd.proofs.questions.cobrwydd_route_eval.Tie as tie
 
-misfit-requires : tie.Need-misfit-requires
-misfit-requires c κs = search needs
+evaluated-misfit-requires : tie.Need-evaluated-misfit-requires
+evaluated-misfit-requires c κs = search needs
 
 returns : tie.Need-returns
-returns c = misfit-said _ _ _ _ _ _ _ (c .before .misfit .ensures) _ (c .if1 .taken)
+returns c = misfit-said _ _ _ _ _ _ _ (c .before .evaluated-misfit .ensures) _ (c .if1 .taken)
 
 vehicle-of-requires : tie.Need-vehicle-of-requires
 vehicle-of-requires c κs = search needs
@@ -18,7 +18,7 @@ route-eval-requires : tie.Need-route-eval-requires
 route-eval-requires c κs = search needs
 
 put-evaluated-requires : tie.Need-put-evaluated-requires
-put-evaluated-requires c κs = (floats-fit _ _ _ _ _ _ (c .before .before .before .before .before .misfit .ensures) (c .before .before .before .before .if1 .left), numbers-fit _ _ _ _ _ _ (c .before .before .before .before .before .misfit .ensures) (c .before .before .before .before .if1 .left))
+put-evaluated-requires c κs = (floats-fit _ _ _ _ _ _ (c .before .before .before .before .before .evaluated-misfit .ensures) (c .before .before .before .before .if1 .left), numbers-fit _ _ _ _ _ _ (c .before .before .before .before .before .evaluated-misfit .ensures) (c .before .before .before .before .if1 .left))
 
 same-length : tie.Need-same-length
 same-length c = search needs
@@ -27,13 +27,13 @@ same-length-2 : tie.Need-same-length-2
 same-length-2 c = search needs
 
 returns-2 : tie.Need-returns-2
-returns-2 c = rw (← vehicle-kept _ _ _ _ _ _ _ _ _ _ (c .before .before .before .before .before .before .before .before .before .before .before .before .before .before .before .before .before .before .before .before .before .fits .capacity) _ (c .before .before .before .before .before .before .before .before .vehicle-of .ensures)) (answer-said _ _ _ _ _ _ _ (c .before .before .before .before .before .before .before .before .before .before .misfit .ensures) (c .before .before .before .before .before .before .before .before .before .if1 .left) _ _ _ _ _ (c .before .before .before .before .put-evaluated .ensures) (c .before .before .before .before .before .before .before .route-eval .ensures))
+returns-2 c = rw (← vehicle-kept _ _ _ _ _ _ _ _ _ _ (c .before .before .before .before .before .before .before .before .before .before .before .before .before .before .before .before .before .before .before .before .before .fits .capacity) _ (c .before .before .before .before .before .before .before .before .vehicle-of .ensures)) (answer-said _ _ _ _ _ _ _ (c .before .before .before .before .before .before .before .before .before .before .evaluated-misfit .ensures) (c .before .before .before .before .before .before .before .before .before .if1 .left) _ _ _ _ _ (c .before .before .before .before .put-evaluated .ensures) (c .before .before .before .before .before .before .before .route-eval .ensures))
 
 pub cobrwydd-route-eval-spec : {M : Type 1} → statement M
 cobrwydd-route-eval-spec =
     tie.close
     (tie.spec
-    misfit-requires
+    evaluated-misfit-requires
     returns
     vehicle-of-requires
     route-eval-requires

@@ -1,0 +1,3 @@
+-- What C is told.
+-- of a list of calls and of a sheet
+pub mod Reports

@@ -1,0 +1,3 @@
+-- What is asked and compared.
+-- what a stored call asks that changes a plan
+pub mod Changed

@@ -1,0 +1,3 @@
+-- Laws of eliminate.
+-- refused and answered calls
+pub mod EliminateLaws

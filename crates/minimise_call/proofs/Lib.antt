@@ -1,0 +1,3 @@
+-- Laws of minimise.
+-- refused and answered calls
+pub mod MinimiseLaws

@@ -1,0 +1,3 @@
+-- Laws of the questions about a problem.
+-- refused and answered questions
+pub mod ProblemLaws

@@ -1,0 +1,3 @@
+-- What is asked.
+-- what a stored question asks
+pub mod Asked

@@ -1,0 +1,3 @@
+-- One call of a list.
+-- one call, run and recorded
+pub mod Recording

@@ -1,3 +1,0 @@
--- What is compared.
--- what a stored call asks
-pub mod Asked
