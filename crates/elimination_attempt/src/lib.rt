@@ -16,9 +16,9 @@ use emptied_route::empty_route;
 use floats::is_finite;
 use models::vehicle::Vehicle;
 use plan::offset;
+use reinsertion_worth::worth;
 use route_removal::restore;
 use route_removal::save;
-use reinsertion_worth::worth;
 
 // What is saved where route r goes: its worth and its fixed cost.
 fn saved_by(

@@ -14,8 +14,8 @@ ghost use Rattle.stop_moves.specs.Moves.{held-by, Waiting, Kept};
 ghost use Rattle.emptied_route.specs.Attempts.{Attempted, emptied, fewer, Accepted};
 use cells::copy_part;
 use models::vehicle::Vehicle;
-use route_removal::erase_route;
 use plan::offset;
+use route_removal::erase_route;
 use stop_moves::Sum;
 use stop_moves::move_all;
 

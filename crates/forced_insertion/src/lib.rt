@@ -14,14 +14,14 @@ ghost use Rattle.ejection_made.specs.Made.{stack};
 ghost use Rattle.ejection_pool.specs.Pool.{after-eject};
 ghost use Rattle.ejection_pool.specs.Running.{Forcing, is-there, put-best, one-more};
 ghost use Rattle.forced_insertion.specs.Turned.{as-turn};
+use cheapest_insertion::cheapest;
 use ejection::Best as Ejected;
 use ejection_made::make_room;
 use ejection_search::eject;
-use cheapest_insertion::cheapest;
 use local_search::rounds::Counts;
-use route_cost::Best;
 use models::vehicle::Vehicle;
 use random_moves::perturb;
+use route_cost::Best;
 
 // How a turn ends: no ejection works; or the number in the pool. With the counts of the call so far.
 pub enum Turn {

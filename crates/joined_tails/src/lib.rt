@@ -12,9 +12,9 @@ ghost use Rattle.local_search.specs.Planned.{Planned};
 ghost use Rattle.perturbation.specs.Parts.{joined, joined-stands};
 use cells::copy_part;
 use local_search::feasible::feasible;
-use route_load::within_capacity;
 use models::vehicle::Vehicle;
 use plan::offset;
+use route_load::within_capacity;
 
 // The front of route a up to i goes to the first work cells, and behind it the tail of route b from j. Returns how many stops these are.
 fn join(

@@ -10,10 +10,10 @@ ghost use Rattle.listing.specs.Written.{Room, Written};
 use listing_lines::put_first_line;
 use listing_lines::put_last_line;
 use listing_lines::put_route_line;
-use route_load::load;
 use local_search::rounds::Counts;
-use route_cost::route_distance;
 use models::vehicle::Vehicle;
+use route_cost::route_distance;
+use route_load::load;
 
 // The line of a route, with its load and its distance.
 fn put_route(

@@ -15,13 +15,13 @@ ghost use Rattle.ejection_pool.specs.Running.{allowance};
 ghost use Rattle.route_attempt.specs.Attempting.{Attempting};
 use local_search::rounds::Counts;
 use local_search::rounds::Next;
-use route_cost::plan_cost;
 use models::vehicle::Vehicle;
-use route_removal::drop_empty;
-use route_order::Pick;
-use route_order::next_pick;
 use pool_attempt::Attempted;
 use route_attempt::attempt;
+use route_cost::plan_cost;
+use route_order::Pick;
+use route_order::next_pick;
+use route_removal::drop_empty;
 
 // What a round starts with: how many routes there are, and what they cost.
 pub struct Round {

@@ -15,10 +15,10 @@ ghost use Rattle.pool_turns.specs.Ends.{said};
 ghost use Rattle.pool_attempt.specs.Judged.{tried, judged};
 use floats::abs;
 use local_search::rounds::Counts;
-use route_cost::plan_cost;
 use models::vehicle::Vehicle;
 use pool_turns::Emptied;
 use pool_turns::empty_into;
+use route_cost::plan_cost;
 
 // How an attempt ends: the plan is kept as it was, or the one without the route is accepted; with the counts of the call so far.
 pub enum Attempted {

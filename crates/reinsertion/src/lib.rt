@@ -12,15 +12,15 @@ ghost use Rattle.reinsertion_worth.specs.Worth.{current};
 ghost use Rattle.reinsertion_candidates.specs.Candidates.{candidates, by-cost, first-passing};
 ghost use Rattle.reinsertion_candidates.specs.Place.{look-at, look-through, look-over};
 ghost use Rattle.reinsertion_candidates.specs.Asked.{Asked, Looked, Room};
-use route_load::has_room;
-use route_cost::Best;
-use route_cost::Insertion;
 use models::vehicle::Vehicle;
 use reinsertion_candidates::Move;
 use reinsertion_candidates::leads;
 use reinsertion_candidates::settles;
 use reinsertion_worth::current;
 use reinsertion_worth::insertion_worth;
+use route_cost::Best;
+use route_cost::Insertion;
+use route_load::has_room;
 
 // One position of route k, which has room for the stop: the better of what it gives and the best so far.
 fn look_at(

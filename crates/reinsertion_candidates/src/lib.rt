@@ -13,8 +13,8 @@ ghost use Rattle.reinsertion_candidates.specs.Asked.{Looked};
 use floats::is_finite;
 use floats::total_less;
 use local_search::feasible::trial_ok;
-use route_cost::Best;
 use models::vehicle::Vehicle;
+use route_cost::Best;
 
 // A stop c that is to be moved: what was added to the worth of the other routes so far, what is saved, whether a window is soft and whether
 // the check is needed.

@@ -13,8 +13,8 @@ use stored::slices::read_u64;
 use stored::text::FAULT;
 use stored::text::number;
 use stored::text::number_to;
-use stored_values::float_of;
 use stored_answers::Stored;
+use stored_values::float_of;
 use tally::note;
 
 // An answer, and the position after it.

@@ -15,12 +15,12 @@ ghost use Rattle.route_attempt.specs.Attempting.{Attempting, Leaves};
 use cells::copy_part;
 use local_search::rounds::Counts;
 use models::vehicle::Vehicle;
-use route_removal::erase_route;
 use plan::offset;
-use route_removal::restore;
-use route_removal::save;
 use pool_attempt::Attempted;
 use pool_attempt::try_rest;
+use route_removal::erase_route;
+use route_removal::restore;
+use route_removal::save;
 
 // Route r goes to the first cells of the pool. Returns how many stops it has.
 fn to_pool(pool: &mut [u16], lengths: &[u16], stops: &[u16], r: usize) -> usize

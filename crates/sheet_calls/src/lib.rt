@@ -7,13 +7,13 @@ ghost use Rattle.planner.specs.Told.{slices-of};
 ghost use Rattle.listing.specs.Written.{Written};
 ghost use Rattle.sheet_laws.specs.Short.{Short};
 ghost use Rattle.sheet_answers.specs.Printed.{eliminated, planned, sheet-of};
+use eliminate_call::eliminate;
 use listing_lines::put_refusal;
 use listing_routes::put_listing;
 use local_search::rounds::Counts;
+use minimise_call::minimise;
 use models::vehicle::Vehicle;
 use planner::calls::Replied;
-use eliminate_call::eliminate;
-use minimise_call::minimise;
 
 // Eliminates and lists what is left, with the counts of the call before.
 fn list_eliminated(

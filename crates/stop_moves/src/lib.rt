@@ -10,11 +10,11 @@ ghost use Rattle.reinsertion_candidates.specs.Asked.{Asked, Room};
 ghost use Rattle.elimination_moves.specs.Largest.{first-largest, in-order};
 ghost use Rattle.stop_moves.specs.Moves.{so-far, held-by, Waiting, Kept};
 use elimination_moves::take_largest;
-use route_cost::Best;
 use models::vehicle::Vehicle;
 use plan::put_in;
 use reinsertion::place;
 use reinsertion_candidates::Move;
+use route_cost::Best;
 
 // What was added to the worth of the other routes, or nothing once a stop has no place.
 pub enum Sum {
