@@ -203,7 +203,7 @@ abbrev Place : ℕ → Ridden → Type 0
 Place n RideStuck = Unit
 Place n (RideAt r) = r .clock .prev < n
 
-ridden-cases : (P : Ridden → Type 0) → P RideStuck → ((r : Riding) → P (RideAt r)) → (x : Ridden) → P x
+pub ridden-cases : (P : Ridden → Type 0) → P RideStuck → ((r : Riding) → P (RideAt r)) → (x : Ridden) → P x
 ridden-cases P a f RideStuck = a
 ridden-cases P a f (RideAt r) = f r
 

@@ -9,7 +9,7 @@ use borrow.Author.Tests.{ltb-true, ltb-false, eqb-true}
 use lib.ListN.{length, getD, take}
 use lib.Dec.{eqb, ltb}
 use Rattle.laws.specs.Counts.{count}
-use Rattle.laws.specs.Searches.{and-first, every-at}
+use Rattle.laws.specs.Searches.{and-first, every-at, or-neither}
 use Rattle.models.specs.declared.vehicle.Rest.the-variants.{Break}
 use Rattle.models.specs.declared.vehicle.VehicleBreak.{VehicleBreak}
 use Rattle.models.specs.Problem.{Problem, Stops, Admitted}
@@ -22,7 +22,7 @@ use Rattle.entry.specs.Table.{Work, stop-passes, stops-pass, bad-lengths
 use Rattle.entry.specs.Given.{numbered, problem-inputs, route-inputs, schedule-inputs, eliminate-inputs, minimise-inputs}
 use Rattle.entry.specs.Rows.{problem-rows, route-rows, plan-rows, work-rows, minimise-rows, or-else, problem-refusal, route-refusal, schedule-refusal, eliminate-refusal, minimise-refusal}
 use Rattle.entry.proofs.StopsLaws.{both, stops-distinct, distinct-few, distinct-outside}
-use Rattle.entry.proofs.EntryLaws.{row-passed, passes, neither}
+use Rattle.entry.proofs.EntryLaws.{row-passed, passes}
 
 -- the code's 0 is no refusal
 pub not-refused : (r : ℕ) (x : Option ℕ) → numbered r ≡ x → r ≡ 0 → x ≡ none
@@ -43,7 +43,7 @@ rows-valid p beside e =
     let b = row-passed (not (values-pass p) || not beside) 2 _ (a .1) in
     let c = row-passed (not (windows-pass p)) 3 _ (b .1) in
     let d = row-passed (not (depot-passes p)) 4 _ (c .1) in
-    let n = neither (not (values-pass p)) (not beside) (b .0) in
+    let n = or-neither (not (values-pass p)) (not beside) (b .0) in
     (both (passes (sizes-pass p) (a .0)) (both (passes (values-pass p) (n .0)) (both (passes (windows-pass p) (c .0)) (passes (depot-passes p) (d .0)))), passes beside (n .1))
 
 pub valid-admitted : (p : Problem) → valid p ≡ true → Admitted p
@@ -88,7 +88,7 @@ rows-accepted : (p : Problem) (s : Slices) → valid p ≡ true → plan-rows p 
 unfolding plan-rows bad-lengths
 rows-accepted p s v e =
     let a = row-passed (bad-lengths s) 5 _ e in
-    let l = neither (ltb 256 (length (s .lengths))) (not (eqb (total (s .lengths)) (length (s .stops)))) (a .0) in
+    let l = or-neither (ltb 256 (length (s .lengths))) (not (eqb (total (s .lengths)) (length (s .stops)))) (a .0) in
     let r = rows-routed p v (s .stops) (a .1) in
     let sum : total (s .lengths) ≡ length (s .stops) = eqb-true (total (s .lengths)) (length (s .stops)) (passes (eqb (total (s .lengths)) (length (s .stops))) (l .1)) in
     let whole = flat-split-all (s .lengths) (s .stops) sum in
@@ -112,7 +112,7 @@ pub record Enough (w : Work) : Type 0 where
 rows-enough : (w : Work) → work-rows w ≡ none → Enough w
 unfolding work-rows too-few
 rows-enough w e =
-    let a = neither (ltb (w .u16-cells) 8192) (ltb (w .f64-cells) 2048) (row-passed (too-few w) 9 _ e .0) in
+    let a = or-neither (ltb (w .u16-cells) 8192) (ltb (w .f64-cells) 2048) (row-passed (too-few w) 9 _ e .0) in
     record { u16-there = ltb-false (w .u16-cells) 8192 (a .0); f64-there = ltb-false (w .f64-cells) 2048 (a .1) }
 
 tape-there : (tape : List ℕ) → is-empty tape ≡ false → 0 < length tape

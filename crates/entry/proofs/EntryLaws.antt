@@ -8,7 +8,7 @@ use mathlib.Core.Option.{Option, none, some}
 use borrow.Author.Tests.{ltb-false, le-ltb, eqb-true, eq-eqb}
 use lib.ListN.{length, drop}
 use lib.Dec.{eqb, ltb}
-use Rattle.laws.specs.Searches.{and-first, and-second}
+use Rattle.laws.specs.Searches.{and-first, and-second, or-neither}
 use Rattle.models.specs.Problem.{Problem}
 use Rattle.models.specs.Valid.{sizes-pass, values-pass, windows-pass, depot-passes, valid}
 use Rattle.plan.specs.Plan.{Slices, total}
@@ -36,10 +36,6 @@ row-over b n x y e f = rw (e, f)
 pub passes : (b : Bool) → not b ≡ false → b ≡ true
 passes true e = refl
 passes false e = cc
-
-pub neither : (a b : Bool) → (a || b) ≡ false → (a ≡ false) × (b ≡ false)
-neither true b e = (e, cc)
-neither false b e = (refl, e)
 
 module _ (p : Problem) (s : Slices) where
   -- ---- refused at the entry
@@ -72,12 +68,12 @@ module _ (p : Problem) (s : Slices) where
       let d = row-passed (not (depot-passes p)) 4 _ (c .1) in
       let f = row-passed (bad-lengths s) 5 _ (d .1) in
       let g = row-passed (not (stops-pass p (s .stops)) || false) 6 _ (f .1) in
-      let l = neither (ltb 256 (length (s .lengths))) (not (eqb (total (s .lengths)) (length (s .stops)))) (f .0) in
+      let l = or-neither (ltb 256 (length (s .lengths))) (not (eqb (total (s .lengths)) (length (s .stops)))) (f .0) in
       record {
-        problem-valid = both (passes (sizes-pass p) (a .0)) (both (passes (values-pass p) (neither (not (values-pass p)) false (b .0) .0)) (both (passes (windows-pass p) (c .0)) (passes (depot-passes p) (d .0))));
+        problem-valid = both (passes (sizes-pass p) (a .0)) (both (passes (values-pass p) (or-neither (not (values-pass p)) false (b .0) .0)) (both (passes (windows-pass p) (c .0)) (passes (depot-passes p) (d .0))));
         few-routes = ltb-false 256 (length (s .lengths)) (l .0);
         sum = eqb-true (total (s .lengths)) (length (s .stops)) (passes (eqb (total (s .lengths)) (length (s .stops))) (l .1));
-        stops-valid = passes (stops-pass p (s .stops)) (neither (not (stops-pass p (s .stops))) false (g .0) .0);
+        stops-valid = passes (stops-pass p (s .stops)) (or-neither (not (stops-pass p (s .stops))) false (g .0) .0);
       }
 
   pub enter : Entered → entry p s ≡ none

@@ -3,13 +3,13 @@
 -- Assumes nothing.
 use Prim.Native.Nat.{ℕ}
 use mathlib.Core.Path.{_≡_, refl, sym, ap, _∙_}
-use mathlib.Core.Bool.{Bool, true, false, true≢false, false≢true, cond, not, _&&_, _||_}
+use mathlib.Core.Bool.{Bool, true, false, true≢false, false≢true, cond, not, _&&_}
 use mathlib.Core.List.{List, [], _∷_}
 use lib.ListN.{getD}
 use lib.Ieee.{Float, nan}
 use Rattle.floats.specs.Binary64.{_⊕_}
 use Rattle.laws.specs.All.{All, all-default}
-use Rattle.laws.specs.Searches.{and-first, and-second, any-none}
+use Rattle.laws.specs.Searches.{and-first, and-second, or-neither, any-none}
 use Rattle.laws.specs.Walks.{walk}
 use Rattle.models.specs.declared.customer.TimeWindow.{TimeWindow}
 use Rattle.models.specs.declared.customer.Window.{Window}
@@ -125,10 +125,6 @@ module _ (cs : Customers) (m : DistanceMatrix) where
 
 -- ---- where the check is not needed
 
-none-of : (a b : Bool) → (a || b) ≡ false → (a ≡ false) × (b ≡ false)
-none-of true b e = absurd (true≢false e)
-none-of false b e = (refl, e)
-
 both-of : (a b : Bool) → not (a && b) ≡ false → (a ≡ true) × (b ≡ true)
 both-of true true e = (refl, refl)
 both-of true false e = absurd (true≢false e)
@@ -165,7 +161,7 @@ pub unneeded-passes : (cs : Customers) (m : DistanceMatrix) (depot : ℕ) (limit
     → route-checks-needed (cs .flags) limits ≡ false → route-feasible cs m depot limits route ≡ true
 unfolding has-time-windows route-feasible
 unneeded-passes cs m depot limits route e =
-    let parts = none-of (has-time-windows (cs .flags)) (not (is-unlimited limits)) e in
+    let parts = or-neither (has-time-windows (cs .flags)) (not (is-unlimited limits)) e in
     let free = both-of (no-limit (limits .«max_distance»)) (no-limit (limits .«max_duration») && no-rest (limits .rest)) (parts .1) in
     let duration = and-first (no-limit (limits .«max_duration»)) (no-rest (limits .rest)) (free .1) in
     let rest = and-second (no-limit (limits .«max_duration»)) (no-rest (limits .rest)) (free .1) in

@@ -63,6 +63,8 @@ use Rattle.evaluation.specs.Eval.{limited, set-out, walked, drive, onward, driv
 use Rattle.evaluation.specs.Check.{has-soft-windows}
 use Rattle.lateness_bound.specs.Bound.{with-window, with-penalty, later-window, dearer-penalty, latest-window, dearest-penalty, slowest, lateness-bound}
 use Rattle.break_clock.proofs.StopLaws.{stops-all}
+use Rattle.break_clock.proofs.ScheduleLaws.{ridden-cases}
+use Rattle.route_worth.proofs.EvalLaws.{walked-cases}
 
 -- ---- amounts
 
@@ -185,10 +187,6 @@ abbrev Walked-good : ℕ → ℕ → Walked → Type 0
 Walked-good n k Late = Unit
 Walked-good n k (WalkAt w) = Walk-good n k w
 
-walked-cases : (P : Walked → Type 0) → P Late → ((w : Walk) → P (WalkAt w)) → (x : Walked) → P x
-walked-cases P a f Late = a
-walked-cases P a f (WalkAt w) = f w
-
 -- an evaluation of a route of k stops
 pub record Bounded (k : ℕ) (e : RouteEval) : Type 0 where
   pub distance : Upto 40 (k + 1) (e .distance)
@@ -247,10 +245,6 @@ record Ride-good (n k : ℕ) (r : Riding) : Type 0 where
 abbrev Ridden-good : ℕ → ℕ → Ridden → Type 0
 Ridden-good n k RideStuck = Unit
 Ridden-good n k (RideAt r) = Ride-good n k r
-
-ridden-cases : (P : Ridden → Type 0) → P RideStuck → ((r : Riding) → P (RideAt r)) → (x : Ridden) → P x
-ridden-cases P a f RideStuck = a
-ridden-cases P a f (RideAt r) = f r
 
 served-good : (k : ℕ) → k < 256 → (s : Served) → Served-good k s → (travel : Float) → Amount travel → (i : ℕ) (rest : Rest) → Rest-amounts rest
     → (c : Customer) → Customer-amounts c → Served-good (suc k) (served-from s travel i rest c)

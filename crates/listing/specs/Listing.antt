@@ -90,22 +90,31 @@ opened = tt
 van : Vehicle
 van = record { capacity = pos 10; «depot_id» = 0; «fixed_cost» = nat 0; «cost_per_distance» = nat 1; «max_distance» = NoLimit; «max_duration» = NoLimit; rest = NoRest }
 
--- what the listing reads of the sample's problem, with the demand of place 1
+-- what the listing reads of the sample's problem, with these demands
+sample-with : List ℤ → Problem
+sample-with demand = problem 3 demand [] [] [] [] [] (nat 0 ∷ nat 10 ∷ nat 10 ∷ nat 10 ∷ nat 0 ∷ nat 5 ∷ nat 10 ∷ nat 5 ∷ nat 0 ∷ []) [] van
+
+-- with the demand of place 1
 sample : ℤ → Problem
-sample first = problem 3 (pos 0 ∷ first ∷ pos 5 ∷ []) [] [] [] [] [] (nat 0 ∷ nat 10 ∷ nat 10 ∷ nat 10 ∷ nat 0 ∷ nat 5 ∷ nat 10 ∷ nat 5 ∷ nat 0 ∷ []) [] van
+sample first = sample-with (pos 0 ∷ first ∷ pos 5 ∷ [])
 
 sample-listing
     : listing (sample (pos 4)) ((1 ∷ 2 ∷ []) ∷ []) (record { steps = 2; draws = 0 }) 2
     ≡ bytes "routes 1\n1 9 25 1 2\nsteps 2 draws 0 given 2 left 1\n"
-unfolding opened sample van
+unfolding opened sample sample-with van
 sample-listing = refl
 
 -- a negative load, and a load of 0
 other-loads
     : listing (sample (negsuc 6)) ((1 ∷ []) ∷ (2 ∷ []) ∷ []) (record { steps = 10; draws = 500 }) 3
     ≡ bytes "routes 2\n1 -7 20 1\n2 5 20 2\nsteps 10 draws 500 given 3 left 2\n"
-unfolding opened sample van
+unfolding opened sample sample-with van
 other-loads = refl
+
+-- the depot's own demand is in no load
+depot-not-loaded : line-of (sample-with (pos 7 ∷ pos 4 ∷ pos 5 ∷ [])) 1 (1 ∷ 2 ∷ []) ≡ bytes "1 9 25 1 2\n"
+unfolding opened sample-with van
+depot-not-loaded = refl
 
 no-routes : listing (sample (pos 4)) [] (record { steps = 0; draws = 0 }) 0 ≡ bytes "routes 0\nsteps 0 draws 0 given 0 left 0\n"
 unfolding opened

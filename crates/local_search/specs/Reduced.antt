@@ -8,7 +8,7 @@ use mathlib.Core.Option.{Option, none, some}
 use native.Mathlib.Omega.{arith}
 use native.Mathlib.Nat.{le-refl, suc-mul, mul-add, mul-comm, mul-le-mul-right}
 use lib.ListN.{length, length-map}
-use Rattle.laws.specs.All.{All, all-cons}
+use Rattle.laws.specs.All.{All, all-cons, all-head}
 use Rattle.laws.specs.Keeps.{length-keep, all-keep}
 use Rattle.laws.specs.Sorts.{range, smallest, sort-by, all-range, all-sort-by, length-range, length-sort-by}
 use Rattle.plan.specs.Plan.{Plan, lengths-of, non-empty, drop-empty, occurs}
@@ -74,9 +74,6 @@ order-length routes = length-sort-by _ 0 _ ∙ length-range 0 (length (lengths-o
 order-inside : (routes : Plan) → All (λ r. r < length routes) (order (lengths-of routes))
 order-inside routes = all-sort-by _ 0 (all-range 0 (length (lengths-of routes)) (length routes) (omega (arith, length-map routes length)))
 
-head-of : {A : Type 0} {P : A → Type 0} {x : A} {xs : List A} → All P (x ∷ xs) → P x
-head-of (all-cons p a) = p
-
 tail-of : {A : Type 0} {P : A → Type 0} {x : A} {xs : List A} → All P (x ∷ xs) → All P xs
 tail-of (all-cons p a) = a
 
@@ -87,7 +84,7 @@ round-has attempt P routes each n =
     try-rule attempt (λ rs n. All (λ r. r < length routes) rs) (λ t. Each P (t .plan)) routes
     (λ n _. tt)
     (λ r rs n i _. tail-of i)
-    (λ r rs n x i e. subst (Each P) e (each r n (head-of i)))
+    (λ r rs n x i e. subst (Each P) e (each r n (all-head i)))
     (order (lengths-of routes)) n (order-inside routes)
 
 -- Where each accepted attempt leaves fewer routes, as many rounds as routes are enough: one more changes nothing.

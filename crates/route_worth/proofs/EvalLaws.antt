@@ -112,7 +112,7 @@ abbrev Place : ℕ → Walked → Type 0
 Place n Late = Unit
 Place n (WalkAt w) = w .prev < n
 
-walked-cases : (P : Walked → Type 0) → P Late → ((w : Walk) → P (WalkAt w)) → (x : Walked) → P x
+pub walked-cases : (P : Walked → Type 0) → P Late → ((w : Walk) → P (WalkAt w)) → (x : Walked) → P x
 walked-cases P a f Late = a
 walked-cases P a f (WalkAt w) = f w
 

@@ -8,7 +8,7 @@ use native.Mathlib.Omega.{arith}
 use lib.ListN.{length, take, length-take}
 use lib.IntN.{ℤ}
 use lib.Ieee.{Float}
-use Rattle.laws.specs.All.{All, all-cons, all-of, all-map, all-take}
+use Rattle.laws.specs.All.{All, all-of, all-map, all-take, all-head}
 use Rattle.models.specs.declared.vehicle.Vehicle.{Vehicle}
 use Rattle.models.specs.Problem.{Problem, depot, Stops, Demands}
 use Rattle.plan.specs.Plan.{Plan, Slices, Lent, split, flat}
@@ -49,9 +49,6 @@ said d t = record { answer = answered d; slices = t }
 answer-is : {d e : Reduction} → answered d ≡ answered e → d ≡ e
 answer-is h = cc
 
-head-of : {A : Type 0} {P : A → Type 0} {x : A} {xs : List A} → All P (x ∷ xs) → P x
-head-of (all-cons h a) = h
-
 module _ (p : Problem) (s : Slices) (c : Call) where
   -- a call that is answered had a problem and a plan that pass the entry checks
   entry-passed : (d : Reduction) (t : Slices) → said d t ≡ call p s c → entry p s ≡ none
@@ -61,7 +58,7 @@ module _ (p : Problem) (s : Slices) (c : Call) where
       go : (o : Option ℕ) → entry p s ≡ o → o ≡ none
       go none f = refl
       go (some k) f =
-          let r : call p s c ≡ record { answer = refused k; slices = s } = head-of (demand-3 p s (c ∷ []) .refused-whole k f) in
+          let r : call p s c ≡ record { answer = refused k; slices = s } = all-head (demand-3 p s (c ∷ []) .refused-whole k f) in
           let a = ap (λ (x : Reply). x .answer) (e ∙ r) in
           let z : _≡_ {A = ℕ} 0 1 = cc in
           absurd (omega arith)
@@ -70,7 +67,7 @@ module _ (p : Problem) (s : Slices) (c : Call) where
   entry-passed-after : (d : Reduction) (t : Slices) → said d t ≡ call p s c → entry p t ≡ none
   unfolding run
   entry-passed-after d t e =
-      ap (λ (x : Reply). entry p (x .slices)) e ∙ head-of (demand-3 p s (c ∷ []) .demand (entry-passed d t e) .kept) .accepted
+      ap (λ (x : Reply). entry p (x .slices)) e ∙ all-head (demand-3 p s (c ∷ []) .demand (entry-passed d t e) .kept) .accepted
 
 -- with enough work cells eliminate is refused by no row of its own
 own-none : (p : Problem) (s : Slices) → entry p s ≡ none → refusal (eliminate-inputs p s work) ≡ none
