@@ -14,6 +14,7 @@ use Rattle.floats.specs.Order.{passed, le-right, lt-false-of-le, lt-of-le-false
 use Rattle.floats.specs.Functions.{max-first, max-second, max-not-nan-left}
 use Rattle.laws.specs.Loops.{foldl, fold-more, fold-end}
 use Rattle.distance.specs.Matrix.{largest}
+use Rattle.distance.specs.Seen.{Seen}
 
 -- times that are not none are n by n
 pub times-there : (l n : ℕ) → (l ≡ 0) ⊎ (l ≡ n * n) → (l ≡ 0 → ⊥) → l ≡ n * n
@@ -42,12 +43,7 @@ larger-stays a b n h = go (isNan b) refl
 
 pub ruleset larger-laws = (larger-next, larger-stays)
 
--- ---- the largest of the numbers before i is `most`: the largest of all is what the rest makes of it
-
-pub record Seen (xs : List Float) (most : Float) (i : ℕ) : Type 0 where
-  pub within : i ≤ length xs
-  pub number : isNan most ≡ false
-  pub same : foldl max 0f xs ≡ foldl max most (drop i xs)
+-- ---- the loop over a list of numbers (specs/Seen)
 
 zero-number : isNan 0f ≡ false
 unfolding isNan ofBits
@@ -60,8 +56,12 @@ module _ (xs : List Float) where
   pub seen-more : (most next : Float) (i : ℕ) → Seen xs most i → i < length xs → next ≡ max most (getD xs i nan) → Seen xs next (i + 1)
   seen-more most next i s h e = record { within = omega arith; number = rw e (max-not-nan-left most (getD xs i nan) (s .number)); same = rw e (fold-more max nan xs 0f most i (s .same) h) }
 
+  -- a smaller number is passed over
+  pub seen-smaller : (most : Float) (i : ℕ) → Seen xs most i → i < length xs → le most (getD xs i nan) ≡ false → Seen xs most (i + 1)
+  seen-smaller most i s h e = seen-more most most i s h (larger-stays most (getD xs i nan) (s .number) e)
+
   pub seen-all : (most : Float) (i : ℕ) → Seen xs most i → length xs ≤ i → most ≡ largest xs
   unfolding largest
   seen-all most i s h = fold-end max nan xs 0f most i (s .same) h
 
-pub ruleset seen-laws = (seen-none, seen-more, seen-all)
+pub ruleset seen-laws = (seen-none, seen-more, seen-smaller, seen-all)

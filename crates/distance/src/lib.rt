@@ -7,6 +7,7 @@ ghost use lib.ListN.{length};
 ghost use Rattle.floats.specs.Binary64.{max};
 ghost use Rattle.models.specs.Problem.{matrix, Square};
 ghost use Rattle.distance.specs.Matrix.{cell, travel-time, largest};
+ghost use Rattle.distance.specs.Seen.{Seen};
 
 // The cell from one place to another. Every place on a checked problem lies in the matrix, so no cell is ever out of it.
 pub fn get(cells: &[f64], n: usize, from: usize, to: usize) -> f64
@@ -37,6 +38,21 @@ fn larger(most: f64, x: f64) -> f64
     if x >= most { x } else { most }
 }
 
+// Where the next number stands that is as large as `most`, the largest so far; the length where there is none. No test waits for the one before.
+fn next_as_large(xs: &[f64], most: f64, start: usize) -> usize
+    requires { ⌜ Seen (now xs) most start ⌝ }
+    ensures { λ r. ⌜ (start ≤ r) × Seen (now (xs .entry)) most r ⌝ }
+{
+    let mut i = start;
+    while i < xs.len() {
+        if xs[i] >= most {
+            return i;
+        }
+        i += 1;
+    }
+    i
+}
+
 // The largest of some numbers, 0 where none is above it.
 pub fn largest(xs: &[f64]) -> f64
     ensures { λ r. ⌜ r ≡ largest (now (xs .entry)) ⌝ }
@@ -44,8 +60,12 @@ pub fn largest(xs: &[f64]) -> f64
     let mut most = 0.0;
     let mut i = 0;
     while i < xs.len() {
-        most = larger(most, xs[i]);
-        i += 1;
+        let at = next_as_large(xs, most, i);
+        if at == xs.len() {
+            return most;
+        }
+        most = larger(most, xs[at]);
+        i = at + 1;
     }
     most
 }

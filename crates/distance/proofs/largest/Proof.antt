@@ -1,8 +1,10 @@
 -- `largest` meets its contract.
 use Prim.Native.Nat.{_-_}
+use native.Mathlib.Omega.{arith}
 use lib.ListN.{length}
 use borrow.Author.Needs.{needs}
-use Rattle.distance.proofs.MatrixLaws.{Seen, seen-laws}
+use Rattle.distance.specs.Seen.{Seen}
+use Rattle.distance.proofs.MatrixLaws.{seen-none, seen-more, seen-all}
 use Rattle.distance.proofs.largest.Tie as tie
 use Rattle.distance.proofs.largest.Statement.{statement}
 
@@ -13,7 +15,13 @@ abbrev μ-loop : tie.MeasureT-loop
 μ-loop xs most₀ i₀ most i = length xs - i
 
 loop-holds : tie.Need-loop-holds Inv-loop μ-loop
-loop-holds c = search seen-laws
+loop-holds c = seen-none _
+
+next-as-large-requires : tie.Need-next-as-large-requires Inv-loop μ-loop
+next-as-large-requires c κs = search needs
+
+returns : tie.Need-returns Inv-loop μ-loop
+returns c = seen-all _ _ _ (c .before .next-as-large .ensures .1) (search needs)
 
 mul-larger : tie.Need-mul-larger Inv-loop μ-loop
 mul-larger c = search needs
@@ -31,22 +39,10 @@ loop-less : tie.Need-loop-less Inv-loop μ-loop
 loop-less c = search needs
 
 loop-again : tie.Need-loop-again Inv-loop μ-loop
-loop-again c = search seen-laws
+loop-again c = seen-more _ _ _ _ (c .before .before .before .next-as-large .ensures .1) (search needs) (c .larger .ensures)
 
-returns : tie.Need-returns Inv-loop μ-loop
-returns c = search seen-laws
+returns-2 : tie.Need-returns-2 Inv-loop μ-loop
+returns-2 c = seen-all _ _ _ (c .before .loop .inv) (search needs)
 
 pub largest-spec : {M : Type 1} → statement M
-largest-spec =
-    tie.close
-    (tie.spec
-    Inv-loop
-    μ-loop
-    loop-holds
-    mul-larger
-    shared-slice-read-larger
-    larger-requires
-    add-i
-    loop-less
-    loop-again
-    returns)
+largest-spec = tie.close (tie.spec Inv-loop μ-loop loop-holds next-as-large-requires returns mul-larger shared-slice-read-larger larger-requires add-i loop-less loop-again returns-2)
