@@ -1,9 +1,9 @@
--- `stops::stop_passes` meets its contract.
+-- `stop_passes` meets its contract.
 use borrow.Author.Needs.{needs}
-use Rattle.entry.proofs.MarkLaws.{marks-unless}
-use Rattle.entry.proofs.StopLaws.{stop-laws}
-use Rattle.entry.proofs.stops.stop_passes.Statement.{statement}
-use Rattle.entry.proofs.stops.stop_passes.Tie as tie
+use Rattle.stop_checks.proofs.MarkLaws.{marks-unless}
+use Rattle.stop_checks.proofs.StopLaws.{stop-laws}
+use Rattle.stop_checks.proofs.stop_passes.Statement.{statement}
+use Rattle.stop_checks.proofs.stop_passes.Tie as tie
 
 returns : tie.Need-returns
 returns c = (search stop-laws, λ e. search marks-unless)

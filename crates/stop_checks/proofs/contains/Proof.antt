@@ -1,9 +1,9 @@
--- `stops::contains` meets its contract.
+-- `contains` meets its contract.
 use Prim.Native.Nat.{_-_}
 use lib.ListN.{length}
-use Rattle.entry.proofs.StopLaws.{Sought, sought-laws}
-use Rattle.entry.proofs.stops.contains.Statement.{statement}
-use Rattle.entry.proofs.stops.contains.Tie as tie
+use Rattle.stop_checks.proofs.StopLaws.{Sought, sought-laws}
+use Rattle.stop_checks.proofs.contains.Statement.{statement}
+use Rattle.stop_checks.proofs.contains.Tie as tie
 
 abbrev Inv-loop : tie.InvT-loop
 Inv-loop stops x i₀ i = Sought x stops i

@@ -1,8 +1,8 @@
--- `stops::bad_lengths` meets its contract.
+-- `bad_lengths` meets its contract.
 use borrow.Author.Needs.{needs}
-use Rattle.entry.proofs.SumLaws.{sum-laws}
-use Rattle.entry.proofs.stops.bad_lengths.Statement.{statement}
-use Rattle.entry.proofs.stops.bad_lengths.Tie as tie
+use Rattle.length_checks.proofs.SumLaws.{sum-laws}
+use Rattle.length_checks.proofs.bad_lengths.Statement.{statement}
+use Rattle.length_checks.proofs.bad_lengths.Tie as tie
 
 returns : tie.Need-returns
 returns c = search sum-laws

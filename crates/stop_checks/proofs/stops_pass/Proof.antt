@@ -1,15 +1,15 @@
--- `stops::stops_pass` meets its contract.
+-- `stops_pass` meets its contract.
 use Prim.Native.Nat.{_-_}
 use mathlib.Core.List.{[]}
 use lib.ListN.{length, getD, take}
 use Rattle.break_clock.proofs.StopLaws.{part-laws}
 use Rattle.laws.specs.Passed.{Passed, every-laws}
 use Rattle.models.specs.Problem.{of-distances}
 use Rattle.entry.specs.Marks.{Marks}
 use Rattle.entry.specs.Table.{stop-passes, stops-pass}
-use Rattle.entry.proofs.MarkLaws.{marks-start, marks-more}
-use Rattle.entry.proofs.stops.stops_pass.Statement.{statement}
-use Rattle.entry.proofs.stops.stops_pass.Tie as tie
+use Rattle.stop_checks.proofs.MarkLaws.{marks-start, marks-more}
+use Rattle.stop_checks.proofs.stops_pass.Statement.{statement}
+use Rattle.stop_checks.proofs.stops_pass.Tie as tie
 
 abbrev Inv-loop : tie.InvT-loop
 Inv-loop n vehicle stops seen₀ i₀ seen i = Passed (λ k. stop-passes (of-distances n [] vehicle) (take k stops) (getD stops k 0)) (length stops) i × Marks seen (take i stops)

@@ -1,8 +1,8 @@
--- `stops::mark_new` meets its contract.
+-- `mark_new` meets its contract.
 use borrow.Author.Needs.{needs}
-use Rattle.entry.proofs.MarkLaws.{mark-laws}
-use Rattle.entry.proofs.stops.mark_new.Statement.{statement}
-use Rattle.entry.proofs.stops.mark_new.Tie as tie
+use Rattle.stop_checks.proofs.MarkLaws.{mark-laws}
+use Rattle.stop_checks.proofs.mark_new.Statement.{statement}
+use Rattle.stop_checks.proofs.mark_new.Tie as tie
 
 slice-read-if2 : tie.Need-slice-read-if2
 slice-read-if2 c = search needs

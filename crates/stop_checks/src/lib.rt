@@ -1,40 +1,13 @@
-// Rows 5 and 6: the lengths and the stops of a plan, and the stops of a route.
+// Row 6 of the refusal table (entry, specs/Table.antt) in code: the stops of a plan or of a route.
 ghost use mathlib.Core.Path.{_≡_};
 ghost use mathlib.Core.List.{[], _∷_, _++_};
 ghost use mathlib.Core.Bool.{true, not};
-ghost use Prim.Native.Nat.{_≤_};
-ghost use lib.ListN.{length};
 ghost use lib.Dec.{eqb};
 ghost use Rattle.laws.specs.Searches.{any};
 ghost use Rattle.models.specs.Problem.{of-distances};
-ghost use Rattle.plan.specs.Plan.{Slices, total};
 ghost use Rattle.entry.specs.Marks.{Marks};
-ghost use Rattle.entry.specs.Table.{bad-lengths, stop-passes, stops-pass};
+ghost use Rattle.entry.specs.Table.{stop-passes, stops-pass};
 use models::vehicle::Vehicle;
-
-// The sum of the lengths.
-fn total(lengths: &[u16]) -> usize
-    requires { ⌜ length (now lengths) ≤ 256 ⌝ }
-    ensures { λ r. ⌜ r ≡ total (now (lengths .entry)) ⌝ }
-{
-    let mut sum = 0;
-    let mut k = 0;
-    while k < lengths.len() {
-        sum = sum + lengths[k] as usize;
-        k += 1;
-    }
-    sum
-}
-
-// Whether there are over 256 lengths, or they do not sum to the number of stops.
-pub fn bad_lengths(lengths: &[u16], stops: &[u16]) -> bool
-    ensures { λ r. ⌜ r ≡ bad-lengths (record { lengths = now (lengths .entry); stops = now (stops .entry) }) ⌝ }
-{
-    if lengths.len() > 256 {
-        return true;
-    }
-    total(lengths) != stops.len()
-}
 
 // Whether x is one of the stops.
 fn contains(stops: &[u16], x: u16) -> bool

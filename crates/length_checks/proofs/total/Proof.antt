@@ -1,11 +1,11 @@
--- `stops::total` meets its contract.
+-- `total` meets its contract.
 use borrow.Author.Needs.{needs}
 use Prim.Native.Nat.{_-_}
 use lib.ListN.{length}
 use native.Mathlib.Omega.{arith}
-use Rattle.entry.proofs.SumLaws.{Summed, sum-laws}
-use Rattle.entry.proofs.stops.total.Statement.{statement}
-use Rattle.entry.proofs.stops.total.Tie as tie
+use Rattle.length_checks.proofs.SumLaws.{Summed, sum-laws}
+use Rattle.length_checks.proofs.total.Statement.{statement}
+use Rattle.length_checks.proofs.total.Tie as tie
 
 abbrev Inv-loop : tie.InvT-loop
 Inv-loop lengths sum₀ k₀ sum k = Summed lengths sum k
