@@ -1,8 +1,8 @@
 -- `home` meets its contract.
 use borrow.Author.Needs.{needs}
-use Rattle.route_worth.proofs.EvalLaws.{home-laws}
-use Rattle.route_worth.proofs.home.Statement.{statement}
-use Rattle.route_worth.proofs.home.Tie as tie
+use Rattle.route_drive.proofs.DriveLaws.{home-laws}
+use Rattle.route_drive.proofs.home.Statement.{statement}
+use Rattle.route_drive.proofs.home.Tie as tie
 
 get-requires : tie.Need-get-requires
 get-requires c κs = search needs

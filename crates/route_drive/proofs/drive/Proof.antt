@@ -1,8 +1,8 @@
 -- `drive` meets its contract.
 use borrow.Author.Needs.{needs}
-use Rattle.route_worth.proofs.EvalLaws.{drive-laws}
-use Rattle.route_worth.proofs.drive.Statement.{statement}
-use Rattle.route_worth.proofs.drive.Tie as tie
+use Rattle.route_drive.proofs.DriveLaws.{drive-laws}
+use Rattle.route_drive.proofs.drive.Statement.{statement}
+use Rattle.route_drive.proofs.drive.Tie as tie
 
 get-requires : tie.Need-get-requires
 get-requires c κs = search needs

@@ -3,12 +3,12 @@ use Prim.Native.Nat.{_-_}
 use borrow.Author.Needs.{needs}
 use lib.ListN.{length}
 use native.Mathlib.Omega.{arith}
-use Rattle.route_worth.proofs.EvalLaws.{Driving, driving-laws}
+use Rattle.route_drive.proofs.DriveLaws.{Driving, driving-laws}
 use Rattle.break_clock.proofs.StopLaws.{stop-laws}
 use Rattle.models.specs.Customer.{customers}
 use Rattle.models.specs.Problem.{matrix}
-use Rattle.route_worth.proofs.drive_all.Statement.{statement}
-use Rattle.route_worth.proofs.drive_all.Tie as tie
+use Rattle.route_drive.proofs.drive_all.Statement.{statement}
+use Rattle.route_drive.proofs.drive_all.Tie as tie
 
 abbrev Inv-loop : tie.InvT-loop
 Inv-loop stops n distances times service ready due penalty flags at₀ i₀ at i = Driving (customers service ready due penalty flags) (matrix n distances times) stops at₀ at i
