@@ -1,8 +1,8 @@
--- `check::route_checks_needed` meets its contract.
+-- `route_checks_needed` meets its contract.
 use borrow.Author.Needs.{needs}
 use Rattle.laws.specs.Picks.{picks}
-use Rattle.evaluation.proofs.check.route_checks_needed.Tie as tie
-use Rattle.evaluation.proofs.check.route_checks_needed.Statement.{statement}
+use Rattle.route_checks.proofs.route_checks_needed.Tie as tie
+use Rattle.route_checks.proofs.route_checks_needed.Statement.{statement}
 
 has-time-windows-requires : tie.Need-has-time-windows-requires
 has-time-windows-requires c κs = search needs

@@ -1,14 +1,14 @@
--- `check::has_soft_windows` meets its contract.
+-- `has_time_windows` meets its contract.
 use Prim.Native.Nat.{_-_}
 use borrow.Author.Needs.{needs}
 use lib.ListN.{length}
-use Rattle.evaluation.proofs.CheckLaws.{Searched, searched-laws}
-use Rattle.evaluation.specs.Check.{soft}
-use Rattle.evaluation.proofs.check.has_soft_windows.Statement.{statement}
-use Rattle.evaluation.proofs.check.has_soft_windows.Tie as tie
+use Rattle.route_checks.proofs.FlagLaws.{Searched, searched-laws}
+use Rattle.models.specs.Customer.{windowed}
+use Rattle.route_checks.proofs.has_time_windows.Statement.{statement}
+use Rattle.route_checks.proofs.has_time_windows.Tie as tie
 
 abbrev Inv-loop : tie.InvT-loop
-Inv-loop flags i₀ i = Searched soft flags i
+Inv-loop flags i₀ i = Searched windowed flags i
 
 abbrev μ-loop : tie.MeasureT-loop
 μ-loop flags i₀ i = length flags - i
@@ -16,11 +16,11 @@ abbrev μ-loop : tie.MeasureT-loop
 loop-holds : tie.Need-loop-holds Inv-loop μ-loop
 loop-holds c = search searched-laws
 
-shared-slice-read-is-soft : tie.Need-shared-slice-read-is-soft Inv-loop μ-loop
-shared-slice-read-is-soft c = search needs
+shared-slice-read-is-windowed : tie.Need-shared-slice-read-is-windowed Inv-loop μ-loop
+shared-slice-read-is-windowed c = search needs
 
-is-soft-requires : tie.Need-is-soft-requires Inv-loop μ-loop
-is-soft-requires c κs = search needs
+is-windowed-requires : tie.Need-is-windowed-requires Inv-loop μ-loop
+is-windowed-requires c κs = search needs
 
 returns : tie.Need-returns Inv-loop μ-loop
 returns c = search searched-laws
@@ -37,15 +37,15 @@ loop-again c = search searched-laws
 returns-2 : tie.Need-returns-2 Inv-loop μ-loop
 returns-2 c = search searched-laws
 
-pub has-soft-windows-spec : {M : Type 1} → statement M
-has-soft-windows-spec =
+pub has-time-windows-spec : {M : Type 1} → statement M
+has-time-windows-spec =
     tie.close
     (tie.spec
     Inv-loop
     μ-loop
     loop-holds
-    shared-slice-read-is-soft
-    is-soft-requires
+    shared-slice-read-is-windowed
+    is-windowed-requires
     returns
     add-i
     loop-less

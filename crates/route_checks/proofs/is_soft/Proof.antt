@@ -1,7 +1,7 @@
--- `check::is_soft` meets its contract.
+-- `is_soft` meets its contract.
 use Rattle.laws.specs.Picks.{picks}
-use Rattle.evaluation.proofs.check.is_soft.Tie as tie
-use Rattle.evaluation.proofs.check.is_soft.Statement.{statement}
+use Rattle.route_checks.proofs.is_soft.Tie as tie
+use Rattle.route_checks.proofs.is_soft.Statement.{statement}
 
 returns : tie.Need-returns
 returns c = search picks
