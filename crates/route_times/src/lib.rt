@@ -13,8 +13,8 @@ ghost use Rattle.quick_test.specs.Parts.{told};
 ghost use Rattle.route_times.specs.Prepared.{held, Prepared};
 use evaluation::check::Left;
 use floats::infinity;
+use latest_times::latest_arrival;
 use models::vehicle::Vehicle;
-use quick_test::latest_arrival;
 use quick_test::leave;
 
 // The time each stop of a route is left goes to the first cells; false where one is reached after its window closes.
