@@ -15,8 +15,8 @@ use ejection::Best;
 use ejection::Ejection;
 use ejection::outranks;
 use insertion::may_pass;
+use insertion_cost::insertion_cost;
 use models::vehicle::Vehicle;
-use route_cost::insertion_cost;
 use route_load::has_room;
 use route_times::prepare;
 

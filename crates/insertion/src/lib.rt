@@ -13,12 +13,12 @@ ghost use Rattle.quick_test.specs.Quick.{may-fit};
 ghost use Rattle.route_times.specs.Prepared.{held};
 ghost use Rattle.insertion.specs.Cheapest.{cheaper};
 ghost use Rattle.insertion.specs.Pass.{may-pass, pass-position};
+use insertion_cost::insertion_cost;
 use local_search::feasible::trial_ok;
 use models::vehicle::Vehicle;
 use quick_test::may_fit;
 use route_cost::Best;
 use route_cost::Insertion;
-use route_cost::insertion_cost;
 
 // The quick test by the departures and latest arrivals in the work cells.
 fn quick(

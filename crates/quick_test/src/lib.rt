@@ -11,10 +11,10 @@ use distance::travel_time;
 use evaluation::check::Left;
 use floats::abs;
 use floats::max;
+use insertion_cost::prev_stop;
 use models::customer::Customer;
 use models::customer::Window;
 use place_record::customer_at;
-use route_cost::prev_stop;
 
 // When the service of a customer ends after `arrival`; missed once its window has closed, with a penalty or without.
 pub fn served_at(arrival: f64, customer: Customer) -> Left

@@ -13,9 +13,9 @@ ghost use Rattle.evaluation.specs.Eval.{effective-cost};
 ghost use Rattle.reinsertion_worth.specs.Worth.{worth, insertion-worth, current};
 use cells::copy_part;
 use cells::insert_at;
+use insertion_cost::insertion_cost;
 use models::limits::RouteLimits;
 use models::vehicle::Vehicle;
-use route_cost::insertion_cost;
 use route_cost::route_distance;
 use route_worth::effective_cost;
 

@@ -3,17 +3,14 @@ use Prim.Native.Nat.{ℕ, _+_, _-_, _*_, _≤_, _<_}
 use native.Mathlib.Numerals.{add-one}
 use native.Mathlib.Omega.{arith}
 use mathlib.Core.Path.{_≡_, refl, sym, ap, _∙_}
-use mathlib.Core.Bool.{Bool, true, false, cond}
 use mathlib.Core.List.{List, [], _∷_}
 use lib.ListN.{length, getD, take, drop, drop-of-length-le}
 use lib.Seq.{drop-cons}
-use lib.Dec.{eqb, ltb}
 use lib.Ieee.{Float}
 use mir.Syntax.{w64}
 use mir.Val.{Fits}
 use borrow.Author.Needs.{needs}
-use borrow.Author.Tests.{eqb-false, ltb-true}
-use Rattle.floats.specs.Binary64.{_⊕_, _⊖_, 0f}
+use Rattle.floats.specs.Binary64.{_⊕_, 0f}
 use Rattle.laws.specs.All.{All}
 use Rattle.laws.specs.Loops.{foldl, fold-more, fold-end}
 use Rattle.models.specs.declared.vehicle.Vehicle.{Vehicle}
@@ -23,7 +20,7 @@ use Rattle.distance.specs.Matrix.{get, cell}
 use Rattle.plan.specs.Plan.{Lent, split}
 use Rattle.plan.specs.Slices.{length-split}
 use Rattle.route_cost.proofs.VisitLaws.{Visiting, visit-start, part-is, visit-more, visit-laws}
-use Rattle.route_cost.specs.Route.{legs, route-distance, prev-stop, next-stop, insertion-cost, cost}
+use Rattle.route_cost.specs.Route.{legs, route-distance, cost}
 
 -- ---- a route: what has come so far, and the legs that are left
 
@@ -86,32 +83,6 @@ module _ (n : ℕ) (distances : List Float) (depot : ℕ) (route : List ℕ) whe
     going-home h e = sym (g .same ∙ rw (drop-of-length-le route h, e))
 
 pub ruleset going-laws = (needs, no-stops, stop-there, stop-fits, first-fits, first-there, going-start, going-on, going-home)
-
--- ---- an insertion
-
-module _ (n depot : ℕ) (route : List ℕ) (pos v : ℕ) (h : depot < n) (s : Stops n route) where
-  pub prev-there : pos ≤ length route → v ≡ prev-stop depot route pos → v < n
-  prev-there k e = go (eqb pos 0) refl e
-    where
-      go : (t : Bool) → eqb pos 0 ≡ t → v ≡ cond t depot (getD route (pos - 1) 0) → v < n
-      go true q e = rw e h
-      go false q e = let z : pos ≡ 0 → ⊥ = eqb-false pos 0 q in let i : 0 < pos = omega arith in rw e (s .each (pos - 1) (omega arith))
-
-  pub next-there : v ≡ next-stop depot route pos → v < n
-  next-there e = go (ltb pos (length route)) refl e
-    where
-      go : (t : Bool) → ltb pos (length route) ≡ t → v ≡ cond t (getD route pos 0) depot → v < n
-      go true q e = rw e (s .each pos (ltb-true pos (length route) q))
-      go false q e = rw e h
-
-pub insertion-is : (n : ℕ) (distances : List Float) (depot : ℕ) (route : List ℕ) (pos c prev next : ℕ) (x y z : Float)
-    → prev ≡ prev-stop depot route pos → next ≡ next-stop depot route pos
-    → x ≡ cell distances n prev c → y ≡ cell distances n c next → z ≡ cell distances n prev next
-    → x ⊕ y ⊖ z ≡ insertion-cost (matrix n distances []) depot route pos c
-unfolding insertion-cost
-insertion-is n distances depot route pos c prev next x y z ep en ex ey ez = rw (← ep, ← en, ex, ey, ez)
-
-pub ruleset ends-laws = (needs, prev-there, next-there)
 
 -- ---- a plan: the sum so far, and the routes that are left
 

@@ -1,4 +1,5 @@
-// The distance of a route, what an insertion adds to it, and the cost of a plan. None of them reads travel times, so the matrix of each contract has none.
+// The distance of a route, an insertion that a search has found, and the cost of a plan. None of them reads travel times, so the matrix of each contract
+// has none. What an insertion adds to a route is worked out in `insertion_cost`.
 ghost use mathlib.Core.Path.{_≡_};
 ghost use mathlib.Core.List.{[]};
 ghost use Prim.Native.Nat.{_*_, _-_, _<_, _≤_};
@@ -6,7 +7,7 @@ ghost use lib.ListN.{length, take, drop};
 ghost use Rattle.laws.specs.All.{All};
 ghost use Rattle.models.specs.Problem.{matrix, of-distances, Stops};
 ghost use Rattle.plan.specs.Plan.{Lent, split};
-ghost use Rattle.route_cost.specs.Route.{route-distance, gain-floor, prev-stop, next-stop, insertion-cost, cost};
+ghost use Rattle.route_cost.specs.Route.{route-distance, gain-floor, cost};
 use distance::get;
 use distance::scale;
 use models::vehicle::Vehicle;
@@ -50,45 +51,6 @@ pub fn gain_floor(distances: &[f64]) -> f64
     ensures { λ r. ⌜ r ≡ gain-floor (matrix 0 (now (distances .entry)) []) ⌝ }
 {
     1e-12 * scale(distances)
-}
-
-// The stop before position pos of a route, the depot before the first.
-pub fn prev_stop(depot: usize, route: &[u16], pos: usize) -> usize
-    requires { ⌜ pos ≤ length (now route) ⌝ }
-    ensures { λ r. ⌜ r ≡ prev-stop depot (now (route .entry)) pos ⌝ }
-{
-    if pos == 0 {
-        return depot;
-    }
-    route[pos - 1] as usize
-}
-
-// The stop at position pos of a route, the depot after the last.
-pub fn next_stop(depot: usize, route: &[u16], pos: usize) -> usize
-    ensures { λ r. ⌜ r ≡ next-stop depot (now (route .entry)) pos ⌝ }
-{
-    if pos < route.len() {
-        return route[pos] as usize;
-    }
-    depot
-}
-
-// What c at position pos of a route adds to its distance.
-pub fn insertion_cost(
-    route: &[u16],
-    pos: usize,
-    c: usize,
-    depot: usize,
-    n: usize,
-    distances: &[f64],
-) -> f64
-    requires { ⌜ (n ≤ 256) × (length (now distances) ≡ n * n) ⌝ }
-    requires { ⌜ (depot < n) × (c < n) × (pos ≤ length (now route)) × Stops n (now route) ⌝ }
-    ensures { λ r. ⌜ r ≡ insertion-cost (matrix n (now (distances .entry)) []) depot (now (route .entry)) pos c ⌝ }
-{
-    let prev = prev_stop(depot, route, pos);
-    let next = next_stop(depot, route, pos);
-    get(distances, n, prev, c) + get(distances, n, c, next) - get(distances, n, prev, next)
 }
 
 // The distance of the route that stands from `at` to `end` among the stops.

@@ -2,8 +2,8 @@
 use borrow.Author.Needs.{needs}
 use native.Mathlib.Omega.{arith}
 use Rattle.laws.specs.Picks.{picks}
-use Rattle.route_cost.proofs.next_stop.Statement.{statement}
-use Rattle.route_cost.proofs.next_stop.Tie as tie
+use Rattle.insertion_cost.proofs.next_stop.Statement.{statement}
+use Rattle.insertion_cost.proofs.next_stop.Tie as tie
 
 mul-result : tie.Need-mul-result
 mul-result c = search needs

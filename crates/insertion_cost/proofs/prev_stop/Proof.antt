@@ -3,8 +3,8 @@ use Prim.Native.Nat.{_-_}
 use borrow.Author.Needs.{needs}
 use native.Mathlib.Omega.{arith}
 use Rattle.laws.specs.Picks.{picks}
-use Rattle.route_cost.proofs.prev_stop.Statement.{statement}
-use Rattle.route_cost.proofs.prev_stop.Tie as tie
+use Rattle.insertion_cost.proofs.prev_stop.Statement.{statement}
+use Rattle.insertion_cost.proofs.prev_stop.Tie as tie
 
 returns : tie.Need-returns
 returns c = search picks

@@ -1,8 +1,8 @@
 -- `insertion_cost` meets its contract.
 use borrow.Author.Needs.{needs}
-use Rattle.route_cost.proofs.DistanceLaws.{ends-laws, insertion-is}
-use Rattle.route_cost.proofs.insertion_cost.Statement.{statement}
-use Rattle.route_cost.proofs.insertion_cost.Tie as tie
+use Rattle.insertion_cost.proofs.InsertionLaws.{ends-laws, insertion-is}
+use Rattle.insertion_cost.proofs.insertion_cost.Statement.{statement}
+use Rattle.insertion_cost.proofs.insertion_cost.Tie as tie
 
 prev-stop-requires : tie.Need-prev-stop-requires
 prev-stop-requires c κs = search needs
