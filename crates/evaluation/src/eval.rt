@@ -1,5 +1,5 @@
 // What a route is worth, or that it does not pass: an evaluation against the limits, and how far a route has been driven. The walk itself is in
-// `route_worth`.
+// `route_drive`.
 ghost use mathlib.Core.Path.{_≡_};
 ghost use Rattle.evaluation.specs.Eval.{set-out, is-feasible, limited};
 use break_clock::route_eval::Eval;
