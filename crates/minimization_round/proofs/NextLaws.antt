@@ -20,7 +20,7 @@ use Rattle.pool_attempt.specs.declared.Attempted.{Attempted}
 use Rattle.pool_attempt.specs.declared.Attempted.the-variants.{Kept, Accepted}
 use Rattle.ejection_pool.specs.Pool.{Allowance}
 use Rattle.pool_attempt.specs.Attempt.{attempt}
-use Rattle.minimization_round.specs.Attempted.{attempt-reduces}
+use Rattle.minimization.specs.Attempted.{attempt-reduces}
 use Rattle.pool_attempt.specs.Judged.{tried}
 use Rattle.route_attempt.specs.Attempting.{Leaves}
 use Rattle.pool_attempt.proofs.JudgedLaws.{cost-whole}

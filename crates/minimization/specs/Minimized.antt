@@ -21,8 +21,8 @@ use Rattle.local_search.specs.Rounds.{Result, reduce}
 use Rattle.local_search.specs.Reduced.{Better, Bounded, triangle, Ended, reduce-ended}
 use Rattle.ejection_pool.specs.Pool.{Allowance}
 use Rattle.pool_attempt.specs.Attempt.{attempt}
-use Rattle.route_minimization.specs.Minimize.{minimize-routes}
-use Rattle.minimization_round.specs.Attempted.{attempt-bounded, attempt-better}
+use Rattle.minimization.specs.Minimize.{minimize-routes}
+use Rattle.minimization.specs.Attempted.{attempt-bounded, attempt-better}
 
 pub record Minimized (given : Allowance) (G : List ℕ → Type 0) (plan : Plan) (x : Result) : Type 0 where
   pub counts-in : Bounded (given .limit * triangle (length (drop-empty plan))) (x .counts)

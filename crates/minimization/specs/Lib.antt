@@ -1,6 +1,8 @@
 -- Route minimisation with an ejection pool. A file uses only files above it in this list.
 -- the search
 pub mod Minimize
+-- what an attempt keeps
+pub mod Attempted
 -- what the search keeps
 pub mod Minimized
 -- the cost falls

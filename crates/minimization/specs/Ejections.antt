@@ -14,8 +14,8 @@ use Rattle.plan.specs.Plan.{Plan}
 use Rattle.local_search.specs.declared.rounds.Counts.{Counts}
 use Rattle.local_search.specs.Rounds.{Result}
 use Rattle.ejection_pool.specs.Pool.{Allowance}
-use Rattle.route_minimization.specs.Minimize.{minimize-routes}
-use Rattle.route_minimization.specs.Opened.{opened}
+use Rattle.minimization.specs.Minimize.{minimize-routes}
+use Rattle.minimization.specs.Opened.{opened}
 
 abbrev num : ℕ → Float
 num n = ofInt binary64 (pos n)

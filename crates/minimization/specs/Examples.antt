@@ -18,8 +18,8 @@ use Rattle.route_load.specs.Feasible.{feasible}
 use Rattle.local_search.specs.declared.rounds.Counts.{Counts}
 use Rattle.quick_test.specs.Quick.{departures, latest-arrivals, may-fit}
 use Rattle.ejection_pool.specs.Pool.{Allowance}
-use Rattle.route_minimization.specs.Minimize.{minimize-routes}
-use Rattle.route_minimization.specs.Opened.{opened}
+use Rattle.minimization.specs.Minimize.{minimize-routes}
+use Rattle.minimization.specs.Opened.{opened}
 
 abbrev num : ℕ → Float
 num n = ofInt binary64 (pos n)

@@ -27,8 +27,8 @@ use Rattle.local_search.specs.RoundRules.{rounds-rule}
 use Rattle.local_search.specs.Reduced.{Better, round-has}
 use Rattle.ejection_pool.specs.Pool.{Allowance, empty-into}
 use Rattle.pool_attempt.specs.Attempt.{if-cheaper, attempt}
-use Rattle.route_minimization.specs.Minimize.{minimize-routes}
-use Rattle.minimization_round.specs.Attempted.{attempt-better}
+use Rattle.minimization.specs.Minimize.{minimize-routes}
+use Rattle.minimization.specs.Attempted.{attempt-better}
 
 abbrev Full : List ℕ → Type 0
 Full r = non-empty r ≡ true
