@@ -18,7 +18,7 @@ use Rattle.local_search.specs.declared.rounds.Counts.{Counts}
 use Rattle.local_search.specs.Reduced.{Better, Bounded, Reduces, reduces-fewer}
 use Rattle.ejection_pool.specs.Pool.{Allowance, empty-into}
 use Rattle.ejection_pool.specs.Placing.{pool-bounded, Placing, pool-keeps}
-use Rattle.pool_attempt.specs.Attempt.{if-cheaper, attempt}
+use Rattle.pool_cost.specs.Attempt.{if-cheaper, attempt}
 
 module _ (given : Allowance) (p : Problem) where
   -- M steps at most

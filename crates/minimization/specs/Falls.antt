@@ -26,7 +26,7 @@ use Rattle.local_search.specs.Rounds.{Result, try-all, rounds, reduce}
 use Rattle.local_search.specs.RoundRules.{rounds-rule}
 use Rattle.local_search.specs.Reduced.{Better, round-has}
 use Rattle.ejection_pool.specs.Pool.{Allowance, empty-into}
-use Rattle.pool_attempt.specs.Attempt.{if-cheaper, attempt}
+use Rattle.pool_cost.specs.Attempt.{if-cheaper, attempt}
 use Rattle.minimization.specs.Minimize.{minimize-routes}
 use Rattle.minimization.specs.Attempted.{attempt-better}
 

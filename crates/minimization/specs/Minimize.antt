@@ -5,7 +5,7 @@ use Rattle.evaluation.specs.Check.{has-soft-windows}
 use Rattle.plan.specs.Plan.{Plan}
 use Rattle.local_search.specs.Rounds.{Result, reduce}
 use Rattle.ejection_pool.specs.Pool.{Allowance}
-use Rattle.pool_attempt.specs.Attempt.{attempt}
+use Rattle.pool_cost.specs.Attempt.{attempt}
 
 -- `minimize_routes`: "If any place, the depot included, has window and penalty, the plan comes back as given, empty routes too, counts 0."
 unfoldable pub minimize-routes : Allowance → Problem → Plan → Result

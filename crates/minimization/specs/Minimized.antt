@@ -20,7 +20,7 @@ use Rattle.local_search.specs.declared.rounds.Counts.{Counts}
 use Rattle.local_search.specs.Rounds.{Result, reduce}
 use Rattle.local_search.specs.Reduced.{Better, Bounded, triangle, Ended, reduce-ended}
 use Rattle.ejection_pool.specs.Pool.{Allowance}
-use Rattle.pool_attempt.specs.Attempt.{attempt}
+use Rattle.pool_cost.specs.Attempt.{attempt}
 use Rattle.minimization.specs.Minimize.{minimize-routes}
 use Rattle.minimization.specs.Attempted.{attempt-bounded, attempt-better}
 

@@ -19,7 +19,7 @@ use Rattle.local_search.proofs.NextLaws.{in-use, next-kept, next-refused, next-
 use Rattle.pool_attempt.specs.declared.Attempted.{Attempted}
 use Rattle.pool_attempt.specs.declared.Attempted.the-variants.{Kept, Accepted}
 use Rattle.ejection_pool.specs.Pool.{Allowance}
-use Rattle.pool_attempt.specs.Attempt.{attempt}
+use Rattle.pool_cost.specs.Attempt.{attempt}
 use Rattle.minimization.specs.Attempted.{attempt-reduces}
 use Rattle.pool_attempt.specs.Judged.{tried}
 use Rattle.route_attempt.specs.Attempting.{Leaves}

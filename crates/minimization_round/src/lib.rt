@@ -10,7 +10,7 @@ ghost use Rattle.local_search.specs.Planned.{Planned};
 ghost use Rattle.route_cost.specs.Route.{cost};
 ghost use Rattle.local_search.specs.Rounds.{try-each};
 ghost use Rattle.local_search.specs.Search.{but-last, tried-next, Next-leaves};
-ghost use Rattle.pool_attempt.specs.Attempt.{attempt};
+ghost use Rattle.pool_cost.specs.Attempt.{attempt};
 ghost use Rattle.ejection_pool.specs.Running.{allowance};
 ghost use Rattle.route_attempt.specs.Attempting.{Attempting};
 use local_search::rounds::Counts;

@@ -24,7 +24,7 @@ use Rattle.ejection_made.specs.Made.{stack}
 use Rattle.pool_attempt.specs.declared.Attempted.{Attempted}
 use Rattle.pool_attempt.specs.declared.Attempted.the-variants.{Kept, Accepted}
 use Rattle.ejection_pool.specs.Pool.{Allowance, run-pool, empty-into}
-use Rattle.pool_attempt.specs.Attempt.{attempt}
+use Rattle.pool_cost.specs.Attempt.{attempt}
 use Rattle.ejection_pool.specs.Running.{Running, state}
 use Rattle.pool_attempt.specs.Judged.{tried, judged}
 use Rattle.route_attempt.specs.Attempting.{Attempting, Leaves}

@@ -7,7 +7,7 @@ ghost use Rattle.models.specs.Problem.{problem};
 ghost use Rattle.plan.specs.Plan.{Lent, split, route};
 ghost use Rattle.route_cost.specs.Route.{cost};
 ghost use Rattle.ejection_made.specs.Made.{stack};
-ghost use Rattle.pool_attempt.specs.Attempt.{attempt};
+ghost use Rattle.pool_cost.specs.Attempt.{attempt};
 ghost use Rattle.ejection_pool.specs.Running.{allowance};
 ghost use Rattle.local_search.specs.Search.{Ends-with-0, but-last};
 ghost use Rattle.pool_attempt.specs.Judged.{tried};

@@ -14,7 +14,7 @@ use Rattle.local_search.specs.declared.rounds.Counts.{Counts}
 use Rattle.local_search.specs.Rounds.{reduce}
 use Rattle.local_search.specs.Search.{Answers}
 use Rattle.ejection_pool.specs.Pool.{Allowance}
-use Rattle.pool_attempt.specs.Attempt.{attempt}
+use Rattle.pool_cost.specs.Attempt.{attempt}
 use Rattle.minimization.specs.Minimize.{minimize-routes}
 
 module _ (given : Allowance) (p : Problem) (ls s : List ℕ) (v : Bool) (e : v ≡ has-soft-windows (p .places .flags)) where

@@ -1,8 +1,8 @@
 -- `empty_pool` meets its contract.
 use borrow.Author.Needs.{needs}
-use Rattle.pool_attempt.proofs.JudgedLaws.{ones-running, ones-emptied}
-use Rattle.pool_attempt.proofs.empty_pool.Statement.{statement}
-use Rattle.pool_attempt.proofs.empty_pool.Tie as tie
+use Rattle.pool_emptying.proofs.StartLaws.{ones-running, ones-emptied}
+use Rattle.pool_emptying.proofs.empty_pool.Statement.{statement}
+use Rattle.pool_emptying.proofs.empty_pool.Tie as tie
 
 sub-empty-into : tie.Need-sub-empty-into
 sub-empty-into c = search needs

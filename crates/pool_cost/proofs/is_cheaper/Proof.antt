@@ -1,8 +1,8 @@
 -- `is_cheaper` meets its contract.
 use borrow.Author.Needs.{needs}
-use Rattle.pool_attempt.proofs.JudgedLaws.{cheaper-is}
-use Rattle.pool_attempt.proofs.is_cheaper.Statement.{statement}
-use Rattle.pool_attempt.proofs.is_cheaper.Tie as tie
+use Rattle.pool_cost.proofs.CostLaws.{cheaper-is}
+use Rattle.pool_cost.proofs.is_cheaper.Statement.{statement}
+use Rattle.pool_cost.proofs.is_cheaper.Tie as tie
 
 plan-cost-requires : tie.Need-plan-cost-requires
 plan-cost-requires c κs = search needs
