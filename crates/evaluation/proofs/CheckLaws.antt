@@ -1,6 +1,5 @@
 -- Laws of specs/Check, each from the facts that the code has where it needs it. Assumes nothing.
 use Prim.Native.Nat.{ℕ, _+_, _-_, _<_, _≤_}
-use native.Mathlib.Omega.{arith}
 use mathlib.Core.Path.{_≡_, refl, sym, ap, subst, _∙_}
 use mathlib.Core.Bool.{Bool, true, false}
 use mathlib.Core.List.{List}
@@ -9,7 +8,6 @@ use lib.Ieee.{Float}
 use Rattle.floats.specs.Binary64.{_⊕_}
 use Rattle.laws.specs.All.{All, all-take}
 use Rattle.laws.specs.Edits.{insert-at, all-insert-at}
-use Rattle.laws.specs.Searches.{any, any-skip, any-hit, any-end}
 use Rattle.laws.specs.Walks.{Walking, walking-start, walking-on, walking-stuck, walking-end, walk-insert, walk-rule}
 use Rattle.models.specs.declared.customer.TimeWindow.{TimeWindow}
 use Rattle.models.specs.declared.customer.Window.the-variants.{None as NoWindow, Is as WindowIs}
@@ -19,7 +17,7 @@ use Rattle.models.specs.declared.vehicle.Rest.the-variants.{None as NoRest, Bre
 use Rattle.models.specs.declared.vehicle.VehicleBreak.{VehicleBreak}
 use Rattle.models.specs.declared.limits.RouteLimits.{RouteLimits}
 use Rattle.models.specs.TimeWindow.{waiting-time, is-violated}
-use Rattle.models.specs.Customer.{Customers, customer-at, windowed}
+use Rattle.models.specs.Customer.{Customers, customer-at}
 use Rattle.models.specs.Vehicle.{vehicle-break-new}
 use Rattle.models.specs.RouteLimits.{allow}
 use Rattle.models.specs.Problem.{DistanceMatrix, matrix, Fit, Stops}
@@ -36,47 +34,9 @@ use Rattle.break_clock.specs.declared.schedule.Ridden.{Ridden}
 use Rattle.break_clock.specs.declared.schedule.Ridden.the-variants.{Stuck as RideStuck, At as RideAt}
 use Rattle.break_clock.specs.Schedule.{schedule, ride-all, ride-home, set-out as ride-out}
 use Rattle.evaluation.specs.Eval.{is-feasible, limited}
-use Rattle.evaluation.specs.Check.{soft, has-time-windows, has-soft-windows, departure-in, departure, set-out, reached, reach, onward, reach-all, home-allowed, homeward, feasible-with, route-feasible}
+use Rattle.evaluation.specs.Check.{departure-in, departure, set-out, reached, reach, onward, reach-all, home-allowed, homeward, feasible-with, route-feasible}
 use Rattle.break_clock.proofs.StopLaws.{stops-all, tail-part}
 use Rattle.break_clock.proofs.ScheduleLaws.{schedule-stuck, schedule-home}
-
--- ---- a search over the flags: none before i has passed
-
-pub record Searched (f : ℕ → Bool) (flags : List ℕ) (i : ℕ) : Type 0 where
-  pub within : i ≤ length flags
-  pub same : any f flags ≡ any f (drop i flags)
-
-module _ (f : ℕ → Bool) (flags : List ℕ) where
-  pub searched-none : Searched f flags 0
-  searched-none = record { within = omega arith; same = refl }
-
-  pub searched-skip : (i : ℕ) (v : Bool) → Searched f flags i → i < length flags → v ≡ f (getD flags i 0) → v ≡ false → Searched f flags (i + 1)
-  searched-skip i v s h ev e = record { within = omega arith; same = any-skip f 0 flags i (s .same) h (sym ev ∙ e) }
-
-  searched-hit : (i : ℕ) (v : Bool) → Searched f flags i → i < length flags → v ≡ f (getD flags i 0) → v ≡ true → true ≡ any f flags
-  searched-hit i v s h ev e = any-hit f 0 flags i (s .same) h (sym ev ∙ e)
-
-  searched-end : (i : ℕ) → Searched f flags i → length flags ≤ i → false ≡ any f flags
-  searched-end i s h = any-end f 0 flags i (s .same) h
-
-module _ (flags : List ℕ) (i : ℕ) where
-  pub windows-hit : (v : Bool) → Searched windowed flags i → i < length flags → v ≡ windowed (getD flags i 0) → v ≡ true → true ≡ has-time-windows flags
-  unfolding has-time-windows
-  windows-hit v s h ev e = searched-hit windowed flags i v s h ev e
-
-  pub windows-end : Searched windowed flags i → length flags ≤ i → false ≡ has-time-windows flags
-  unfolding has-time-windows
-  windows-end s h = searched-end windowed flags i s h
-
-  pub soft-hit : (v : Bool) → Searched soft flags i → i < length flags → v ≡ soft (getD flags i 0) → v ≡ true → true ≡ has-soft-windows flags
-  unfolding has-soft-windows
-  soft-hit v s h ev e = searched-hit soft flags i v s h ev e
-
-  pub soft-end : Searched soft flags i → length flags ≤ i → false ≡ has-soft-windows flags
-  unfolding has-soft-windows
-  soft-end s h = searched-end soft flags i s h
-
-pub ruleset searched-laws = (searched-none, searched-skip, windows-hit, windows-end, soft-hit, soft-end)
 
 -- ---- departure: no window; in time; late without a penalty; late with one
 

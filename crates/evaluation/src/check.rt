@@ -2,10 +2,9 @@
 // so its walk keeps time and distance only, and ends at the first stop that is missed.
 ghost use mathlib.Core.Path.{_≡_};
 ghost use Prim.Native.Nat.{_<_};
-ghost use lib.ListN.{length};
-ghost use Rattle.models.specs.Customer.{customers, windowed};
+ghost use Rattle.models.specs.Customer.{customers};
 ghost use Rattle.models.specs.Problem.{matrix, Square, Fit, Stops};
-ghost use Rattle.evaluation.specs.Check.{soft, has-time-windows, has-soft-windows, route-checks-needed, set-out, departure, reach, reach-all, home-allowed, route-feasible};
+ghost use Rattle.evaluation.specs.Check.{set-out, departure, reach, reach-all, home-allowed, route-feasible};
 use crate::eval::is_feasible;
 use crate::eval::limited;
 use break_schedule::schedule;
@@ -18,62 +17,6 @@ use models::limits::RouteLimits;
 use models::vehicle::Rest;
 use models::vehicle::VehicleBreak;
 use place_record::customer_at;
-
-// Whether a place's flags say that it has a window.
-fn is_windowed(flag: u8) -> bool
-    ensures { λ r. ⌜ r ≡ windowed flag ⌝ }
-{
-    flag % 2 == 1
-}
-
-// Whether a place's flags say that it has a window and a penalty.
-fn is_soft(flag: u8) -> bool
-    ensures { λ r. ⌜ r ≡ soft flag ⌝ }
-{
-    if flag % 2 == 1 {
-        flag / 2 % 2 == 1
-    } else {
-        false
-    }
-}
-
-// Whether any place has a time window.
-pub fn has_time_windows(flags: &[u8]) -> bool
-    ensures { λ r. ⌜ r ≡ has-time-windows (now (flags .entry)) ⌝ }
-{
-    let mut i = 0;
-    while i < flags.len() {
-        if is_windowed(flags[i]) {
-            return true;
-        }
-        i += 1;
-    }
-    false
-}
-
-// Whether any place, the depot included, has a window and a penalty.
-pub fn has_soft_windows(flags: &[u8]) -> bool
-    ensures { λ r. ⌜ r ≡ has-soft-windows (now (flags .entry)) ⌝ }
-{
-    let mut i = 0;
-    while i < flags.len() {
-        if is_soft(flags[i]) {
-            return true;
-        }
-        i += 1;
-    }
-    false
-}
-
-// Whether a search has to make the route check at all: where no place has a window and nothing is limited, every route passes it.
-pub fn route_checks_needed(flags: &[u8], limits: RouteLimits) -> bool
-    ensures { λ r. ⌜ r ≡ route-checks-needed (now (flags .entry)) limits ⌝ }
-{
-    if has_time_windows(flags) {
-        return true;
-    }
-    !limits.is_unlimited()
-}
 
 // A route as far as it has been driven: the time its last stop is left, the distance so far, and that stop.
 pub struct Way {

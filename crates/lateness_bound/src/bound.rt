@@ -8,12 +8,12 @@ ghost use Rattle.models.specs.Customer.{customers};
 ghost use Rattle.models.specs.Problem.{matrix, Square, Fit};
 ghost use Rattle.lateness_bound.specs.Bound.{with-window, with-penalty, latest-window, dearest-penalty, slowest, lateness-bound};
 use distance::largest;
-use evaluation::check::has_soft_windows;
 use floats::max;
 use models::customer::Penalty;
 use models::customer::Window;
 use place_record::penalty_at;
 use place_record::window_at;
+use route_checks::has_soft_windows;
 
 // The larger of `most` and both ends of a window, if there is one.
 fn with_window(most: f64, window: Window) -> f64

@@ -9,10 +9,10 @@ ghost use Rattle.models.specs.RouteLimits.{limits-of};
 ghost use Rattle.models.specs.Problem.{matrix, problem, Fit, Stops, Demands};
 ghost use Rattle.evaluation.specs.Check.{route-checks-needed};
 ghost use Rattle.route_load.specs.Feasible.{checked, feasible};
-use evaluation::check::route_checks_needed;
 use evaluation::check::route_feasible;
 use models::limits::RouteLimits;
 use models::vehicle::Vehicle;
+use route_checks::route_checks_needed;
 use route_load::within_capacity;
 use trial_route::trial_feasible;
 

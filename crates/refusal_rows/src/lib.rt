@@ -9,14 +9,14 @@ ghost use Rattle.plan.specs.Plan.{Slices};
 ghost use Rattle.entry.specs.Table.{Work};
 ghost use Rattle.entry.specs.Given.{numbered};
 ghost use Rattle.entry.specs.Rows.{problem-rows, route-rows, plan-rows, work-rows, minimise-rows};
-use entry::stops::bad_lengths;
-use entry::stops::stops_pass;
+use length_checks::bad_lengths;
 use models::vehicle::Vehicle;
 use place_checks::places_pass;
 use place_checks::windows_pass;
 use problem_checks::amounts::amounts_pass;
 use problem_checks::amounts::vehicle_passes;
 use problem_checks::sizes::sizes_pass;
+use stop_checks::stops_pass;
 
 // Whether row 2 lets the problem pass, where row 1 does.
 fn values_pass(

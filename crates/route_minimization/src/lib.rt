@@ -6,12 +6,12 @@ ghost use Rattle.local_search.specs.Search.{Answers};
 ghost use Rattle.minimization.specs.Minimize.{minimize-routes};
 ghost use Rattle.ejection_pool.specs.Running.{allowance};
 ghost use Rattle.minimization_search.specs.Minimizing.{Searching};
-use evaluation::check::has_soft_windows;
 use local_search::feasible::constrained;
 use local_search::rounds::Counts;
 use local_search::rounds::Reduction;
 use minimization_search::search;
 use models::vehicle::Vehicle;
+use route_checks::has_soft_windows;
 
 // `minimize_routes`: with a soft window the plan comes back as given, otherwise with as many routes fewer as the attempts find.
 pub fn minimize_routes(

@@ -1,3 +1,3 @@
 -- Laws of the definitions of what a route is worth.
--- the walk, the way home, the cost, as the code meets them
+-- the whole route and its cost, as the code meets them
 pub mod EvalLaws

@@ -1,0 +1,3 @@
+-- What the functions' proofs lean on.
+-- a search over the flags
+pub mod FlagLaws
