@@ -1,7 +1,7 @@
--- `vehicle::rest_of` meets its contract.
+-- `rest_of` meets its contract.
 use Rattle.laws.specs.Picks.{picks}
-use Rattle.c_values.proofs.vehicle.rest_of.Statement.{statement}
-use Rattle.c_values.proofs.vehicle.rest_of.Tie as tie
+use Rattle.c_vehicle.proofs.rest_of.Statement.{statement}
+use Rattle.c_vehicle.proofs.rest_of.Tie as tie
 
 returns : tie.Need-returns
 returns c = search picks

@@ -1,8 +1,8 @@
--- `vehicle::vehicle_of` meets its contract.
-use Rattle.c_values.proofs.VehicleLaws.{vehicle-made}
+-- `vehicle_of` meets its contract.
+use Rattle.c_vehicle.proofs.VehicleLaws.{vehicle-made}
 use borrow.Author.Needs.{needs}
-use Rattle.c_values.proofs.vehicle.vehicle_of.Statement.{statement}
-use Rattle.c_values.proofs.vehicle.vehicle_of.Tie as tie
+use Rattle.c_vehicle.proofs.vehicle_of.Statement.{statement}
+use Rattle.c_vehicle.proofs.vehicle_of.Tie as tie
 
 limit-of-requires : tie.Need-limit-of-requires
 limit-of-requires c κs = search needs

@@ -9,7 +9,7 @@ use mir.Facts.{toZ-ofZ}
 use Rattle.models.specs.declared.vehicle.Limit.{Limit}
 use Rattle.models.specs.declared.vehicle.Rest.{Rest}
 use Rattle.models.specs.declared.vehicle.Vehicle.{Vehicle}
-use Rattle.c_values.specs.VehicleOf.{has-max-distance, has-max-duration, has-rest, limit-of, rest-of, vehicle-of}
+use Rattle.c_vehicle.specs.VehicleOf.{has-max-distance, has-max-duration, has-rest, limit-of, rest-of, vehicle-of}
 
 module _ (capacity : ℤ) (depot : ℕ) (fixed rate : Float) (given : ℕ) (distance-limit duration-limit earliest latest duration : Float) where
   -- an i32 that is passed on is read off its bits

@@ -1,6 +1,6 @@
 // Whether the slices for an answer have its lengths, and whether the byte `given` is one. C gets 100 or 101 where not, and nothing is written.
 ghost use mathlib.Core.Path.{_≡_};
-ghost use Rattle.c_values.specs.Said.{misfit};
+ghost use Rattle.c_fits.specs.Misfit.{misfit};
 
 // 100 where a slice for the answer has not its length, 101 where `given` is over 7, else 0.
 fn misfit(floats: usize, asked: usize, numbers: usize, wanted: usize, given: u8) -> u8

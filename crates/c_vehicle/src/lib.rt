@@ -1,6 +1,6 @@
 // The vehicle, made of the numbers that C hands over.
 ghost use mathlib.Core.Path.{_≡_};
-ghost use Rattle.c_values.specs.VehicleOf.{limit-of, rest-of, vehicle-of};
+ghost use Rattle.c_vehicle.specs.VehicleOf.{limit-of, rest-of, vehicle-of};
 use models::vehicle::Limit;
 use models::vehicle::Rest;
 use models::vehicle::Vehicle;
