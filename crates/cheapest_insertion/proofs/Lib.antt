@@ -1,5 +1,3 @@
--- Laws of the definitions of the cheapest insertion, as the code meets them.
--- one route
-pub mod RouteLaws
+-- What the functions' proofs lean on.
 -- the routes of a plan
 pub mod PlanLaws

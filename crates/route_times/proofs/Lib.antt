@@ -1,7 +1,3 @@
--- Laws of the definitions of the times along a route, as the code meets them.
--- departures, forward
-pub mod DepartureLaws
--- latest arrivals, backward
-pub mod LatestLaws
+-- Laws of this crate's definitions, as the code meets them.
 -- departures and latest arrivals in work cells
 pub mod PrepareLaws

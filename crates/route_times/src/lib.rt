@@ -1,4 +1,4 @@
-// The times along a route, for the quick test of its positions: when each stop is left, and how late each may be reached; both in work cells, before
+// The times along a route in work cells, for the quick test of its positions: when each stop is left, and how late each may be reached; both before
 // the positions of the route are tried.
 ghost use mathlib.Core.Path.{_≡_};
 ghost use mathlib.Core.List.{[]};
@@ -11,106 +11,9 @@ ghost use Rattle.evaluation.specs.Check.{route-checks-needed};
 ghost use Rattle.quick_test.specs.Quick.{departures, latest-arrivals, with-latest};
 ghost use Rattle.quick_test.specs.Parts.{told};
 ghost use Rattle.route_times.specs.Prepared.{held, Prepared};
-use evaluation::check::Left;
-use floats::infinity;
 use models::vehicle::Vehicle;
-use quick_test::latest_arrival;
-use quick_test::leave;
-
-// The time each stop of a route is left goes to the first cells; false where one is reached after its window closes.
-pub fn departures(
-    out: &mut [f64],
-    route: &[u16],
-    depot: usize,
-    n: usize,
-    distances: &[f64],
-    times: &[f64],
-    service: &[f64],
-    ready: &[f64],
-    due: &[f64],
-    penalty: &[f64],
-    flags: &[u8],
-) -> bool
-    requires { ⌜ Fit (customers (now service) (now ready) (now due) (now penalty) (now flags)) (matrix n (now distances) (now times)) ⌝ }
-    requires { ⌜ (depot < n) × Stops n (now route) × (length (now route) ≤ length (now out)) ⌝ }
-    ensures { λ r. ⌜ departures (customers (now (service .entry)) (now (ready .entry)) (now (due .entry)) (now (penalty .entry)) (now (flags .entry)))
-        (matrix n (now (distances .entry)) (now (times .entry))) depot (now (route .entry))
-        ≡ told r (take (length (now (route .entry))) (now (out .exit))) ⌝ }
-{
-    let mut time = 0.0;
-    let mut prev = depot;
-    let mut i = 0;
-    while i < route.len() {
-        let c = route[i] as usize;
-        let done = leave(
-            time,
-            prev,
-            c,
-            n,
-            distances,
-            times,
-            service,
-            ready,
-            due,
-            penalty,
-            flags,
-        );
-        let Left::At(left) = done else {
-            return false;
-        };
-        out[i] = left;
-        time = left;
-        prev = c;
-        i += 1;
-    }
-    true
-}
-
-// The latest arrival at each stop of a route that lets it and every stop after it start in time goes to the first cells, from
-// the last to the first. The depot has no window: the last stop is bound by its own alone.
-pub fn latest_arrivals(
-    out: &mut [f64],
-    route: &[u16],
-    depot: usize,
-    n: usize,
-    distances: &[f64],
-    times: &[f64],
-    service: &[f64],
-    ready: &[f64],
-    due: &[f64],
-    penalty: &[f64],
-    flags: &[u8],
-)
-    requires { ⌜ Fit (customers (now service) (now ready) (now due) (now penalty) (now flags)) (matrix n (now distances) (now times)) ⌝ }
-    requires { ⌜ (depot < n) × Stops n (now route) × (length (now route) ≤ length (now out)) ⌝ }
-    ensures { λ _. ⌜ (take (length (now (route .entry))) (now (out .exit))
-        ≡ latest-arrivals (customers (now (service .entry)) (now (ready .entry)) (now (due .entry)) (now (penalty .entry)) (now (flags .entry)))
-        (matrix n (now (distances .entry)) (now (times .entry))) depot (now (route .entry)))
-        × (drop (length (now (route .entry))) (now (out .exit)) ≡ drop (length (now (route .entry))) (now (out .entry))) ⌝ }
-{
-    let mut by = infinity();
-    let mut next = depot;
-    let mut i = route.len();
-    while 0 < i {
-        i -= 1;
-        let c = route[i] as usize;
-        by = latest_arrival(
-            by,
-            c,
-            next,
-            n,
-            distances,
-            times,
-            service,
-            ready,
-            due,
-            penalty,
-            flags,
-        );
-        out[i] = by;
-        next = c;
-    }
-}
+use walked_times::departures;
+use walked_times::latest_arrivals;
 
 // The departures go to the first 256 work cells; false where one of the stops is reached after its window closes.
 fn keep_departures(

@@ -4,9 +4,9 @@ use borrow.Author.Needs.{needs}
 use native.Mathlib.Omega.{arith}
 use Rattle.models.specs.Customer.{customers}
 use Rattle.models.specs.Problem.{matrix}
-use Rattle.route_times.proofs.LatestLaws.{Backing, backing-laws, backing-needs}
-use Rattle.route_times.proofs.latest_arrivals.Tie as tie
-use Rattle.route_times.proofs.latest_arrivals.Statement.{statement}
+use Rattle.walked_times.proofs.LatestLaws.{Backing, backing-laws, backing-needs}
+use Rattle.walked_times.proofs.latest_arrivals.Tie as tie
+use Rattle.walked_times.proofs.latest_arrivals.Statement.{statement}
 
 abbrev Inv-loop : tie.InvT-loop
 Inv-loop out₀ route depot n distances times service ready due penalty flags by₀ next₀ i₀ out by next i =

@@ -1,8 +1,8 @@
--- `moves::move_between` meets its contract.
-use Rattle.random_moves.proofs.MoveLaws.{pair-first, pair-second, none-moved, first-none, second-none, between, moved-between}
+-- `move_between` meets its contract.
+use Rattle.pair_move.proofs.PairLaws.{pair-first, pair-second, none-moved, first-none, second-none, between, moved-between}
 use borrow.Author.Needs.{needs}
-use Rattle.random_moves.proofs.moves.move_between.Statement.{statement}
-use Rattle.random_moves.proofs.moves.move_between.Tie as tie
+use Rattle.pair_move.proofs.move_between.Statement.{statement}
+use Rattle.pair_move.proofs.move_between.Tie as tie
 
 mul-if1 : tie.Need-mul-if1
 mul-if1 c =

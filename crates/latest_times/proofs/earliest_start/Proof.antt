@@ -1,8 +1,8 @@
 -- `earliest_start` meets its contract.
 use borrow.Author.Needs.{needs}
 use Rattle.quick_test.proofs.ArrivalLaws.{earliest-none}
-use Rattle.quick_test.proofs.earliest_start.Tie as tie
-use Rattle.quick_test.proofs.earliest_start.Statement.{statement}
+use Rattle.latest_times.proofs.earliest_start.Tie as tie
+use Rattle.latest_times.proofs.earliest_start.Statement.{statement}
 
 enum-told : tie.Need-enum-told
 enum-told c = search needs

@@ -9,8 +9,8 @@ use Rattle.route_cost.specs.Route.{chosen}
 use Rattle.route_times.specs.Prepared.{held}
 use Rattle.insertion.specs.Pass.{pass-position}
 use Rattle.insertion.proofs.AlongLaws.{Along, along-more, along-laws}
-use Rattle.cheapest_insertion.proofs.try_positions.Statement.{statement}
-use Rattle.cheapest_insertion.proofs.try_positions.Tie as tie
+use Rattle.route_insertion.proofs.try_positions.Statement.{statement}
+use Rattle.route_insertion.proofs.try_positions.Tie as tie
 
 abbrev Inv-loop : tie.InvT-loop
 Inv-loop route cells c k needed vehicle n distances times service ready due penalty flags found₀ pos₀ found pos =

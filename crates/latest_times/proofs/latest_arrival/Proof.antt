@@ -1,8 +1,8 @@
 -- `latest_arrival` meets its contract.
 use borrow.Author.Needs.{needs}
 use Rattle.quick_test.proofs.ArrivalLaws.{latest-is}
-use Rattle.quick_test.proofs.latest_arrival.Tie as tie
-use Rattle.quick_test.proofs.latest_arrival.Statement.{statement}
+use Rattle.latest_times.proofs.latest_arrival.Tie as tie
+use Rattle.latest_times.proofs.latest_arrival.Statement.{statement}
 
 travel-time-requires : tie.Need-travel-time-requires
 travel-time-requires c κs = search needs

@@ -5,9 +5,9 @@ use lib.ListN.{length}
 use native.Mathlib.Omega.{arith}
 use Rattle.models.specs.Customer.{customers}
 use Rattle.models.specs.Problem.{matrix}
-use Rattle.route_times.proofs.DepartureLaws.{Leaving, leaving-laws, leaving-needs}
-use Rattle.route_times.proofs.departures.Tie as tie
-use Rattle.route_times.proofs.departures.Statement.{statement}
+use Rattle.walked_times.proofs.DepartureLaws.{Leaving, leaving-laws, leaving-needs}
+use Rattle.walked_times.proofs.departures.Tie as tie
+use Rattle.walked_times.proofs.departures.Statement.{statement}
 
 abbrev Inv-loop : tie.InvT-loop
 Inv-loop out₀ route depot n distances times service ready due penalty flags time₀ prev₀ i₀ out time prev i =

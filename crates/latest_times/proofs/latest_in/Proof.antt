@@ -1,8 +1,8 @@
 -- `latest_in` meets its contract.
 use borrow.Author.Needs.{needs}
 use Rattle.quick_test.proofs.ArrivalLaws.{latest-in-laws}
-use Rattle.quick_test.proofs.latest_in.Tie as tie
-use Rattle.quick_test.proofs.latest_in.Statement.{statement}
+use Rattle.latest_times.proofs.latest_in.Tie as tie
+use Rattle.latest_times.proofs.latest_in.Statement.{statement}
 
 earliest-start-requires : tie.Need-earliest-start-requires
 earliest-start-requires c κs = search needs

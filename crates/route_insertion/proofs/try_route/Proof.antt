@@ -2,9 +2,9 @@
 use borrow.Author.Needs.{needs}
 use native.Mathlib.Omega.{arith}
 use Rattle.route_load.proofs.FeasibleLaws.{demands-own, stops-own, place-own}
-use Rattle.cheapest_insertion.proofs.RouteLaws.{route-laws}
-use Rattle.cheapest_insertion.proofs.try_route.Statement.{statement}
-use Rattle.cheapest_insertion.proofs.try_route.Tie as tie
+use Rattle.route_insertion.proofs.RouteLaws.{route-laws}
+use Rattle.route_insertion.proofs.try_route.Statement.{statement}
+use Rattle.route_insertion.proofs.try_route.Tie as tie
 
 has-room-requires : tie.Need-has-room-requires
 has-room-requires c κs =

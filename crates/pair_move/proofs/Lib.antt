@@ -1,0 +1,3 @@
+-- What the function's proof leans on.
+-- two routes, either of which may be empty
+pub mod PairLaws
