@@ -1,10 +1,10 @@
 -- `rest` meets its contract. Assumes nothing.
 use borrow.Author.Needs.{needs}
 use Rattle.sheet_format.specs.Form.{break}
-use Rattle.sheet_vehicle.proofs.VehicleLaws.{lines}
+use Rattle.sheet_rest.proofs.RestLaws.{lines}
 use Rattle.sheet_text.proofs.ReadLaws.{readings}
-use Rattle.sheet_vehicle.proofs.rest.Statement.{statement}
-use Rattle.sheet_vehicle.proofs.rest.Tie as tie
+use Rattle.sheet_rest.proofs.rest.Statement.{statement}
+use Rattle.sheet_rest.proofs.rest.Tie as tie
 
 slice-aggregate-heading : tie.Need-slice-aggregate-heading
 slice-aggregate-heading c = search needs

@@ -2,8 +2,8 @@
 use borrow.Author.Needs.{needs}
 use Rattle.sheet_format.specs.Form.{rest-line}
 use Rattle.sheet_text.proofs.ReadLaws.{readings}
-use Rattle.sheet_vehicle.proofs.rest_line.Statement.{statement}
-use Rattle.sheet_vehicle.proofs.rest_line.Tie as tie
+use Rattle.sheet_rest.proofs.rest_line.Statement.{statement}
+use Rattle.sheet_rest.proofs.rest_line.Tie as tie
 
 number-before-requires : tie.Need-number-before-requires
 number-before-requires c κs = search needs
