@@ -4,9 +4,9 @@ ghost use Rattle.sheet_format.specs.Form.{rest-line, break, with-rest};
 ghost use Rattle.sheet_rest.specs.Told.{told-rest};
 use models::vehicle::Rest;
 use models::vehicle::Vehicle;
+use sheet_fields::number_before;
 use sheet_headings::heading;
 use sheet_text::numbers::NumberAt;
-use sheet_text::numbers::number_before;
 use sheet_text::words::Count;
 
 pub enum RestAt {

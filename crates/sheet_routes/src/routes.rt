@@ -8,12 +8,12 @@ ghost use Rattle.sheet_format.specs.Form.{stop-cell as Form·stop-cell, draws a
 ghost use Rattle.sheet_reader.specs.Cells.{front, filled, AtMost};
 ghost use Rattle.sheet_routes.specs.Routes.{filled-count, route-behind, filled-route, filled-plan, PlanWithin};
 use sheet_cells::stop_cell;
+use sheet_fields::number_before;
 use sheet_headings::heading;
 use sheet_text::numbers::Next;
 use sheet_text::numbers::NumberAt;
 use sheet_text::numbers::byte;
 use sheet_text::numbers::number;
-use sheet_text::numbers::number_before;
 use sheet_text::words::Count;
 use sheet_text::words::ending;
 

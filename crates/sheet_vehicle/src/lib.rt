@@ -6,13 +6,13 @@ ghost use Rattle.sheet_vehicle.specs.Told.{told-limit, told-vehicle};
 use models::vehicle::Limit;
 use models::vehicle::Rest;
 use models::vehicle::Vehicle;
+use sheet_fields::number_before;
+use sheet_fields::optional_before;
+use sheet_fields::signed_before;
 use sheet_headings::heading;
 use sheet_text::numbers::NumberAt;
 use sheet_text::numbers::OptionalAt;
 use sheet_text::numbers::SignedAt;
-use sheet_text::numbers::number_before;
-use sheet_text::numbers::optional_before;
-use sheet_text::numbers::signed_before;
 use sheet_text::words::Count;
 
 pub enum LimitAt {

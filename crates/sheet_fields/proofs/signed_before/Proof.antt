@@ -1,11 +1,12 @@
--- `number_before` meets its contract. Assumes nothing.
+-- `signed_before` meets its contract. Assumes nothing.
 use borrow.Author.Needs.{needs}
+use Rattle.sheet_fields.proofs.SignLaws.{got-same}
 use Rattle.sheet_text.proofs.ReadLaws.{readings}
-use Rattle.sheet_text.proofs.numbers.number_before.Statement.{statement}
-use Rattle.sheet_text.proofs.numbers.number_before.Tie as tie
+use Rattle.sheet_fields.proofs.signed_before.Statement.{statement}
+use Rattle.sheet_fields.proofs.signed_before.Tie as tie
 
-number-requires : tie.Need-number-requires
-number-requires c κs = search needs
+signed-requires : tie.Need-signed-requires
+signed-requires c κs = search needs
 
 enum-known-v : tie.Need-enum-known-v
 enum-known-v c = search needs
@@ -29,13 +30,13 @@ returns-2 : tie.Need-returns-2
 returns-2 c = search readings
 
 returns-3 : tie.Need-returns-3
-returns-3 c = search readings
+returns-3 c = search (readings, got-same)
 
-pub number-before-spec : {M : Type 1} → statement M
-number-before-spec =
+pub signed-before-spec : {M : Type 1} → statement M
+signed-before-spec =
     tie.close
     (tie.spec
-    number-requires
+    signed-requires
     enum-known-v
     enum-told
     returns

@@ -1,10 +1,10 @@
 -- `optional` meets its contract. Assumes nothing.
 use native.Mathlib.Omega.{arith}
 use borrow.Author.Needs.{needs}
-use Rattle.sheet_text.proofs.TextLaws.{sign-laws}
+use Rattle.sheet_fields.proofs.SignLaws.{sign-laws}
 use Rattle.sheet_text.proofs.ReadLaws.{readings}
-use Rattle.sheet_text.proofs.numbers.optional.Statement.{statement}
-use Rattle.sheet_text.proofs.numbers.optional.Tie as tie
+use Rattle.sheet_fields.proofs.optional.Statement.{statement}
+use Rattle.sheet_fields.proofs.optional.Tie as tie
 
 peek-requires : tie.Need-peek-requires
 peek-requires c κs = search needs

@@ -5,12 +5,12 @@ use lib.IntN.{ℤ}
 use mir.Facts.{toZ-pos}
 use mir.Syntax.{w32}
 use borrow.Author.Needs.{needs}
-use Rattle.sheet_text.proofs.TextLaws.{signed-minus, signed-plain, neg-fits, neg-back, pos-fits, sign-laws}
+use Rattle.sheet_fields.proofs.SignLaws.{signed-minus, signed-plain, neg-fits, neg-back, pos-fits, sign-laws}
 use Rattle.sheet_text.proofs.ReadLaws.{number-at, readings}
 use Rattle.sheet_text.specs.Told.{Short}
 use Rattle.sheet_text.specs.Text.{got}
-use Rattle.sheet_text.proofs.numbers.signed.Statement.{statement}
-use Rattle.sheet_text.proofs.numbers.signed.Tie as tie
+use Rattle.sheet_fields.proofs.signed.Statement.{statement}
+use Rattle.sheet_fields.proofs.signed.Tie as tie
 
 peek-requires : tie.Need-peek-requires
 peek-requires c κs = search needs

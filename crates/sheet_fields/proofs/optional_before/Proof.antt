@@ -1,8 +1,8 @@
 -- `optional_before` meets its contract. Assumes nothing.
 use borrow.Author.Needs.{needs}
 use Rattle.sheet_text.proofs.ReadLaws.{readings}
-use Rattle.sheet_text.proofs.numbers.optional_before.Statement.{statement}
-use Rattle.sheet_text.proofs.numbers.optional_before.Tie as tie
+use Rattle.sheet_fields.proofs.optional_before.Statement.{statement}
+use Rattle.sheet_fields.proofs.optional_before.Tie as tie
 
 optional-requires : tie.Need-optional-requires
 optional-requires c κs = search needs
