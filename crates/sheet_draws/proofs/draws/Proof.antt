@@ -4,8 +4,8 @@ use borrow.Author.Needs.{needs}
 use Rattle.sheet_format.specs.Form.{draws}
 use Rattle.sheet_reader.proofs.SectionLaws.{sections, count-within}
 use Rattle.sheet_text.proofs.ReadLaws.{readings}
-use Rattle.sheet_routes.proofs.routes.draws.Statement.{statement}
-use Rattle.sheet_routes.proofs.routes.draws.Tie as tie
+use Rattle.sheet_draws.proofs.draws.Statement.{statement}
+use Rattle.sheet_draws.proofs.draws.Tie as tie
 
 slice-aggregate-heading : tie.Need-slice-aggregate-heading
 slice-aggregate-heading c = search needs

@@ -8,8 +8,8 @@ use Rattle.sheet_reader.proofs.FillLaws.{none-yet, row-end, row-fault, row-turn
 use Rattle.sheet_reader.specs.Cells.{front}
 use Rattle.sheet_text.proofs.ReadLaws.{number-at, number-bad}
 use Rattle.sheet_text.specs.Text.{map-reading, before, lf, number, repeat}
-use Rattle.sheet_routes.proofs.routes.draw_rows.Statement.{statement}
-use Rattle.sheet_routes.proofs.routes.draw_rows.Tie as tie
+use Rattle.sheet_draws.proofs.draw_rows.Statement.{statement}
+use Rattle.sheet_draws.proofs.draw_rows.Tie as tie
 
 abbrev Inv-loop : tie.InvT-loop
 Inv-loop cells₀ s at n a₀ p₀ left₀ cells a p left = (repeat n (λ left. before lf number) s at ≡ map-reading (front (λ (v : ℕ). v) cells p) (repeat left (λ left. before lf number) s a)) × (p + left ≡ n) × (length cells ≡ length cells₀)
