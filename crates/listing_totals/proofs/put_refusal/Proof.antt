@@ -1,22 +1,22 @@
--- `put_first_line` meets its contract. Assumes nothing.
+-- `put_refusal` meets its contract. Assumes nothing.
 use mathlib.Core.Path.{_∙_}
 use borrow.Author.Needs.{needs}
 use Rattle.listing.proofs.WriteLaws.{text-more, text-last, room-first, room-more}
-use Rattle.listing.specs.Listing.{first-line}
-use Rattle.listing_lines.proofs.put_first_line.Statement.{statement}
-use Rattle.listing_lines.proofs.put_first_line.Tie as tie
+use Rattle.listing.specs.Listing.{refusal-line}
+use Rattle.listing_totals.proofs.put_refusal.Statement.{statement}
+use Rattle.listing_totals.proofs.put_refusal.Tie as tie
 
 slice-aggregate-put-bytes : tie.Need-slice-aggregate-put-bytes
 slice-aggregate-put-bytes c = search needs
 
 put-bytes-requires : tie.Need-put-bytes-requires
-unfolding first-line
+unfolding refusal-line
 put-bytes-requires c κs =
     let b3 = c .before .before .before in
     room-first _ _ _ _ (b3 .pre)
 
 put-decimal-requires : tie.Need-put-decimal-requires
-unfolding first-line
+unfolding refusal-line
 put-decimal-requires c κs =
     let b3 = c .before .before .before in
     let b7 = b3 .before .before .before .before in
@@ -26,7 +26,7 @@ slice-aggregate-put-bytes-2 : tie.Need-slice-aggregate-put-bytes-2
 slice-aggregate-put-bytes-2 c = search needs
 
 put-bytes-requires-2 : tie.Need-put-bytes-requires-2
-unfolding first-line
+unfolding refusal-line
 put-bytes-requires-2 c κs =
     let b4 = c .before .before .before .before in
     let b8 = b4 .before .before .before .before in
@@ -43,7 +43,7 @@ same-length c =
     ∙ b11 .put-bytes .kept .0
 
 returns : tie.Need-returns
-unfolding first-line
+unfolding refusal-line
 returns c =
     let b2 = c .before .before in
     let b7 = b2 .before .before .before .before .before in
@@ -53,8 +53,8 @@ returns c =
     (text-more _ _ _ _ _ _ _ _ (b7 .put-decimal .ensures)
     (text-last _ _ _ _ _ (b2 .put-bytes2 .ensures)))
 
-pub put-first-line-spec : {M : Type 1} → statement M
-put-first-line-spec =
+pub put-refusal-spec : {M : Type 1} → statement M
+put-refusal-spec =
     tie.close
     (tie.spec
     slice-aggregate-put-bytes

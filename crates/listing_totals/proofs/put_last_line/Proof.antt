@@ -3,8 +3,8 @@ use mathlib.Core.Path.{_∙_}
 use borrow.Author.Needs.{needs}
 use Rattle.listing.proofs.WriteLaws.{text-more, text-last, room-first, room-more}
 use Rattle.listing.specs.Listing.{last-line}
-use Rattle.listing_lines.proofs.put_last_line.Statement.{statement}
-use Rattle.listing_lines.proofs.put_last_line.Tie as tie
+use Rattle.listing_totals.proofs.put_last_line.Statement.{statement}
+use Rattle.listing_totals.proofs.put_last_line.Tie as tie
 
 slice-aggregate-put-bytes : tie.Need-slice-aggregate-put-bytes
 slice-aggregate-put-bytes c = search needs
