@@ -22,7 +22,7 @@ use Rattle.ejection_pool.specs.Pool.{Allowance}
 use Rattle.pool_cost.specs.Attempt.{attempt}
 use Rattle.minimization_round.specs.Attempted.{attempt-reduces}
 use Rattle.pool_attempt.specs.Judged.{tried}
-use Rattle.route_attempt.specs.Attempting.{Leaves}
+use Rattle.route_attempt.specs.Leaves.{Leaves}
 use Rattle.pool_cost.proofs.CostLaws.{cost-whole}
 
 -- ---- the start of a round
