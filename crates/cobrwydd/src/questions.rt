@@ -123,7 +123,7 @@ pub extern "C" fn cobrwydd_route_eval(
         latest,
         duration,
     );
-    let answer = planner_questions::route_eval(
+    let answer = worth_questions::route_eval(
         route,
         n,
         demand,
@@ -183,7 +183,7 @@ pub extern "C" fn cobrwydd_effective_cost(
         latest,
         duration,
     );
-    let answer = planner_questions::effective_cost(
+    let answer = worth_questions::effective_cost(
         route,
         n,
         demand,

@@ -22,8 +22,8 @@ use Rattle.ejection_pool.specs.Pool.{Allowance}
 use Rattle.pool_cost.specs.Attempt.{attempt}
 use Rattle.minimization.specs.Attempted.{attempt-reduces}
 use Rattle.pool_attempt.specs.Judged.{tried}
-use Rattle.route_attempt.specs.Attempting.{Leaves}
-use Rattle.pool_attempt.proofs.JudgedLaws.{cost-whole}
+use Rattle.route_attempt.specs.Leaves.{Leaves}
+use Rattle.pool_cost.proofs.CostLaws.{cost-whole}
 
 -- ---- the start of a round
 

@@ -12,7 +12,7 @@ ghost use Rattle.local_search.specs.Rounds.{try-each};
 ghost use Rattle.local_search.specs.Search.{but-last, tried-next, Next-leaves};
 ghost use Rattle.pool_cost.specs.Attempt.{attempt};
 ghost use Rattle.ejection_pool.specs.Running.{allowance};
-ghost use Rattle.route_attempt.specs.Attempting.{Attempting};
+ghost use Rattle.route_without.specs.Attempting.{Attempting};
 use local_search::rounds::Counts;
 use local_search::rounds::Next;
 use models::vehicle::Vehicle;

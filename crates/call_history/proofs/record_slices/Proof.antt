@@ -1,9 +1,9 @@
 -- `record_slices` meets its contract.
 use native.Mathlib.Omega.{arith}
 use borrow.Author.Needs.{needs}
-use Rattle.call_words.proofs.PutLaws.{put-both}
-use Rattle.call_words.proofs.record_slices.Statement.{statement}
-use Rattle.call_words.proofs.record_slices.Tie as tie
+use Rattle.call_history.proofs.PutLaws.{put-both}
+use Rattle.call_history.proofs.record_slices.Statement.{statement}
+use Rattle.call_history.proofs.record_slices.Tie as tie
 
 add-at : tie.Need-add-at
 add-at c = search needs

@@ -1,8 +1,9 @@
 -- `effective_cost` meets its contract.
 use borrow.Author.Needs.{needs}
-use Rattle.planner_questions.proofs.QuestionLaws.{route-fit, route-depot, route-stops, cost-refused, cost-answered}
-use Rattle.planner_questions.proofs.effective_cost.Statement.{statement}
-use Rattle.planner_questions.proofs.effective_cost.Tie as tie
+use Rattle.planner_questions.proofs.QuestionLaws.{route-fit, route-depot, route-stops}
+use Rattle.worth_questions.proofs.WorthLaws.{cost-refused, cost-answered}
+use Rattle.worth_questions.proofs.effective_cost.Statement.{statement}
+use Rattle.worth_questions.proofs.effective_cost.Tie as tie
 
 route-refusal-requires : tie.Need-route-refusal-requires
 route-refusal-requires c κs = search needs

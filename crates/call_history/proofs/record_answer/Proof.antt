@@ -1,8 +1,8 @@
 -- `record_answer` meets its contract.
 use borrow.Author.Needs.{needs}
-use Rattle.call_words.proofs.PutLaws.{refused-put, answered-put}
-use Rattle.call_words.proofs.record_answer.Statement.{statement}
-use Rattle.call_words.proofs.record_answer.Tie as tie
+use Rattle.call_history.proofs.PutLaws.{refused-put, answered-put}
+use Rattle.call_history.proofs.record_answer.Statement.{statement}
+use Rattle.call_history.proofs.record_answer.Tie as tie
 
 enum-known-a : tie.Need-enum-known-a
 enum-known-a c = search needs

@@ -1,8 +1,9 @@
 -- `route_eval` meets its contract.
 use borrow.Author.Needs.{needs}
-use Rattle.planner_questions.proofs.QuestionLaws.{route-fit, route-depot, route-stops, eval-refused, eval-answered}
-use Rattle.planner_questions.proofs.route_eval.Statement.{statement}
-use Rattle.planner_questions.proofs.route_eval.Tie as tie
+use Rattle.planner_questions.proofs.QuestionLaws.{route-fit, route-depot, route-stops}
+use Rattle.worth_questions.proofs.WorthLaws.{eval-refused, eval-answered}
+use Rattle.worth_questions.proofs.route_eval.Statement.{statement}
+use Rattle.worth_questions.proofs.route_eval.Tie as tie
 
 route-refusal-requires : tie.Need-route-refusal-requires
 route-refusal-requires c κs = search needs

@@ -2,9 +2,9 @@
 use native.Mathlib.Omega.{arith}
 use borrow.Author.Needs.{needs}
 use lib.ListN.{length-set}
-use Rattle.call_words.proofs.PutLaws.{put-four}
-use Rattle.call_words.proofs.put_words.Statement.{statement}
-use Rattle.call_words.proofs.put_words.Tie as tie
+use Rattle.call_history.proofs.PutLaws.{put-four}
+use Rattle.call_history.proofs.put_words.Statement.{statement}
+use Rattle.call_history.proofs.put_words.Tie as tie
 
 mul-answers : tie.Need-mul-answers
 mul-answers c = search needs

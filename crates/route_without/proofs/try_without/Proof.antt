@@ -1,9 +1,9 @@
 -- `try_without` meets its contract.
 use mathlib.Core.Path.{refl}
 use borrow.Author.Needs.{needs}
-use Rattle.route_attempt.proofs.AttemptLaws.{starts-running, without-tried, ends-with-0}
-use Rattle.route_attempt.proofs.try_without.Statement.{statement}
-use Rattle.route_attempt.proofs.try_without.Tie as tie
+use Rattle.route_without.proofs.WithoutLaws.{starts-running, without-tried, ends-with-0}
+use Rattle.route_without.proofs.try_without.Statement.{statement}
+use Rattle.route_without.proofs.try_without.Tie as tie
 
 slice-aggregate-to-pool : tie.Need-slice-aggregate-to-pool
 slice-aggregate-to-pool c = search needs

@@ -1,8 +1,8 @@
 -- `to_pool` meets its contract.
 use borrow.Author.Needs.{needs}
-use Rattle.route_attempt.proofs.AttemptLaws.{pool-laws}
-use Rattle.route_attempt.proofs.to_pool.Statement.{statement}
-use Rattle.route_attempt.proofs.to_pool.Tie as tie
+use Rattle.route_pool.proofs.StartLaws.{pool-laws}
+use Rattle.route_pool.proofs.to_pool.Statement.{statement}
+use Rattle.route_pool.proofs.to_pool.Tie as tie
 
 offset-requires : tie.Need-offset-requires
 offset-requires c κs = search needs
