@@ -23,7 +23,8 @@ use Rattle.planner.specs.Calls.{Answer, refused, answered, Reply}
 use Rattle.planner.specs.declared.calls.Replied.{Replied}
 use Rattle.planner.specs.declared.calls.Replied.the-variants.{Refused as NotReplied, Answered as RepliedAs}
 use Rattle.planner.specs.Told.{replied-told, Free-if-answered}
-use Rattle.c_values.specs.Said.{Values, values, Said, says, misfit, put, question, evaluated, eval-values, window-values, reduction-values, plan-call, Free-if-done}
+use Rattle.c_fits.specs.Misfit.{misfit}
+use Rattle.c_values.specs.Said.{Values, values, Said, says, put, question, evaluated, eval-values, window-values, reduction-values, plan-call, Free-if-done}
 
 -- ---- a slice whose cells are all written
 

@@ -1,5 +1,3 @@
--- Laws of this crate's definitions. A file uses only files above it in this list.
--- the vehicle
-pub mod VehicleLaws
+-- Laws of this crate's definitions.
 -- answers in slices
 pub mod AnswerLaws

@@ -1,5 +1,3 @@
--- The values of the C interface. A file uses only files above it in this list.
--- a vehicle of numbers
-pub mod VehicleOf
+-- The values of the C interface.
 -- what a function returns and writes
 pub mod Said

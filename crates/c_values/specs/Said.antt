@@ -4,7 +4,7 @@ use mathlib.Core.Path.{_≡_}
 use mathlib.Core.List.{List, [], _∷_}
 use mathlib.Core.Bool.{Bool, cond}
 use lib.ListN.{length}
-use lib.Dec.{eqb, leb}
+use lib.Dec.{eqb}
 use lib.Ieee.{Float}
 use Rattle.floats.specs.Binary64.{0f}
 use Rattle.models.specs.declared.customer.Window.{Window}
@@ -17,6 +17,7 @@ use Rattle.plan.specs.Plan.{Slices}
 use Rattle.local_search.specs.declared.rounds.Reduction.{Reduction}
 use Rattle.planner.specs.Calls.{Answer, refused, answered, Reply}
 use Rattle.planner.specs.Told.{slices-of}
+use Rattle.c_fits.specs.Misfit.{misfit}
 
 -- ---- the slices for an answer
 
@@ -35,10 +36,6 @@ pub record Said : Type 0 where
 
 abbrev pub says : ℕ → List Float → List ℕ → Said
 says code floats numbers = record { code = code; after = values floats numbers }
-
--- 100 where the slice of floats has another length than `asked` or that of numbers than `wanted`, 101 where `given` is over 7, else 0
-unfoldable pub misfit : ℕ → ℕ → ℕ → ℕ → ℕ → ℕ
-misfit floats asked numbers wanted given = cond (eqb floats asked) (cond (eqb numbers wanted) (cond (leb given 7) 0 101) 100) 100
 
 -- "A refusal returns its number only and changes no buffer."; otherwise 0, and the answer in the slices
 abbrev pub put : {A : Type 0} → (A → Values) → Values → Answer A → Said

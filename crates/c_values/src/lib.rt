@@ -1,3 +1,2 @@
-// The values of the C interface: a vehicle made of numbers, and whether the slices for an answer have its lengths.
-pub mod fits;
-pub mod vehicle;
+// The values of the C interface: what a function returns, and what it leaves in the slices that it is lent for its answer. This crate has no code: its
+// definitions are in specs/, its laws in proofs/.

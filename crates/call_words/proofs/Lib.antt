@@ -1,5 +1,3 @@
 -- Laws of lists of calls as words.
 -- the form of a list of calls
 pub mod FormLaws
--- what is recorded
-pub mod PutLaws

@@ -1,14 +1,11 @@
-// A list of calls as words that the caller lends: what they ask for, whether they are malformed, and how an answer and both slices are recorded.
-// What the words say is in specs/Words.antt.
+// A list of calls as words that the caller lends: what they ask for, and whether they are malformed. What the words say, and how an answer and both
+// slices are recorded, is in specs/Words.antt.
 ghost use mathlib.Core.Path.{_≡_};
-ghost use mathlib.Core.List.{[], _∷_, _++_};
 ghost use Prim.Native.Nat.{_+_, _*_, _≤_};
 ghost use lib.ListN.{length, drop};
 ghost use lib.Dec.{eqb};
-ghost use Rattle.planner.specs.Told.{replied-told, work-of};
-ghost use Rattle.call_words.specs.Words.{buffers, words-first, words-of, kind-passes, call-passes, calls-pass, well-formed, answer-words, put};
-use cells::copy_part;
-use planner::calls::Replied;
+ghost use Rattle.planner.specs.Told.{work-of};
+ghost use Rattle.call_words.specs.Words.{buffers, words-first, words-of, kind-passes, call-passes, calls-pass, well-formed};
 
 // The six words of a call: its kind (0 minimise, 1 eliminate), M, K, how many words its tape has, and how many u16 and f64 work cells it is lent.
 pub struct Words {
@@ -19,8 +16,6 @@ pub struct Words {
     pub small: usize,
     pub wide: usize,
 }
-
-// ---- what is asked for
 
 // The words of call i.
 pub fn words_at(calls: &[u64], i: usize) -> Words
@@ -130,48 +125,4 @@ pub fn well_formed(
         return false;
     }
     calls_pass(calls, count, tapes.len(), work.len(), cells.len())
-}
-
-// ---- what is recorded
-
-// Four words from `at` on.
-fn put_words(answers: &mut [u64], at: usize, refusal: u64, routes: u64, steps: u64, draws: u64)
-    requires { ⌜ at + 4 ≤ length (now answers) ⌝ }
-    ensures { λ _. ⌜ now (answers .exit) ≡ put (now (answers .entry)) at (refusal ∷ routes ∷ steps ∷ draws ∷ []) ⌝ }
-{
-    answers[at] = refusal;
-    answers[at + 1] = routes;
-    answers[at + 2] = steps;
-    answers[at + 3] = draws;
-}
-
-// The answer of call i, in four words.
-pub fn record_answer(answers: &mut [u64], i: usize, a: Replied)
-    requires { ⌜ i * 4 + 4 ≤ length (now answers) ⌝ }
-    ensures { λ _. ⌜ now (answers .exit) ≡ put (now (answers .entry)) (i * 4) (answer-words (replied-told a)) ⌝ }
-{
-    match a {
-        Replied::Refused(number) => put_words(answers, i * 4, number as u64, 0, 0, 0),
-        Replied::Answered(done) => {
-            let counts = done.counts;
-            put_words(
-                answers,
-                i * 4,
-                0,
-                done.routes as u64,
-                counts.steps,
-                counts.draws,
-            )
-        }
-    }
-}
-
-// Both slices after call i.
-pub fn record_slices(history: &mut [u16], i: usize, lengths: &[u16], stops: &[u16])
-    requires { ⌜ i * (length (now lengths) + length (now stops)) + (length (now lengths) + length (now stops)) ≤ length (now history) ⌝ }
-    ensures { λ _. ⌜ now (history .exit) ≡ put (now (history .entry)) (i * (length (now (lengths .entry)) + length (now (stops .entry)))) (now (lengths .entry) ++ now (stops .entry)) ⌝ }
-{
-    let at = i * (lengths.len() + stops.len());
-    copy_part(history, at, lengths, 0, lengths.len());
-    copy_part(history, at + lengths.len(), stops, 0, stops.len());
 }

@@ -10,7 +10,7 @@ use Rattle.call_lists.specs.declared.Ran.{Ran}
 use Rattle.call_lists.specs.declared.Ran.the-variants.{Malformed, Done as RanAll}
 use Rattle.call_words.specs.Words.{Buffers, well-formed}
 use Rattle.call_lists.specs.Lists.{Untouched, All-run, Leaves}
-use Rattle.c_values.specs.Said.{misfit}
+use Rattle.c_fits.specs.Misfit.{misfit}
 use Rattle.c_reports.specs.Reports.{ran-code}
 use Rattle.cobrwydd.specs.Lists.{list-code, Ran-list}
 

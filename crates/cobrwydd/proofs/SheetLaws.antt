@@ -11,7 +11,7 @@ use lib.Seq.{sets}
 use Rattle.sheet_planner.specs.declared.Printed.{Printed}
 use Rattle.sheet_planner.specs.declared.Printed.the-variants.{Bytes}
 use Rattle.sheet_planner.specs.Output.{Output, output, into}
-use Rattle.c_values.specs.Said.{misfit}
+use Rattle.c_fits.specs.Misfit.{misfit}
 use Rattle.c_values.proofs.AnswerLaws.{floats-fit, numbers-fit}
 use Rattle.c_reports.specs.Reports.{printed-code, bytes-written}
 use Rattle.cobrwydd.specs.Sheets.{Prints, prints, sheet-call}

@@ -6,11 +6,11 @@ ghost use Rattle.models.specs.Problem.{problem};
 ghost use Rattle.ejection_pool.specs.Running.{allowance};
 ghost use Rattle.planner.specs.Calls.{public-minimise, public-eliminate};
 ghost use Rattle.planner.specs.Told.{slices-of, work-of};
-ghost use Rattle.c_values.specs.VehicleOf.{vehicle-of};
+ghost use Rattle.c_vehicle.specs.VehicleOf.{vehicle-of};
 ghost use Rattle.c_values.specs.Said.{replies, plan-call, Free-if-done};
 use c_answers::put_reply;
-use c_values::fits::reply_misfit;
-use c_values::vehicle::vehicle_of;
+use c_fits::reply_misfit;
+use c_vehicle::vehicle_of;
 
 // Fewer routes by an ejection pool: at most `limit` steps in an attempt, draws from the tape, a clock that stops the call after `clock` steps.
 #[no_mangle]

@@ -2,11 +2,11 @@
 // after each call recorded. A call that returns another number than 0 changes nothing.
 ghost use Rattle.models.specs.Problem.{problem};
 ghost use Rattle.call_words.specs.Words.{buffers};
-ghost use Rattle.c_values.specs.VehicleOf.{vehicle-of};
+ghost use Rattle.c_vehicle.specs.VehicleOf.{vehicle-of};
 ghost use Rattle.cobrwydd.specs.Lists.{Ran-list};
+use c_fits::list_misfit;
 use c_reports::ran_code;
-use c_values::fits::list_misfit;
-use c_values::vehicle::vehicle_of;
+use c_vehicle::vehicle_of;
 
 // The calls that `calls` and `tapes` ask for: six words of `calls` for each (kind, M, K, words of its tape, u16 and f64 work cells), the tapes one after the
 // other. Four words of `answers` for each (refusal or 0, routes, steps, draws), and in `history` the lengths and stops after it. 102 where the words or

@@ -5,17 +5,17 @@ ghost use mathlib.Core.List.{[]};
 ghost use Rattle.models.specs.Vehicle.{vehicle-break-new};
 ghost use Rattle.models.specs.Problem.{problem};
 ghost use Rattle.planner.specs.Calls.{answered, public-route-feasible, public-route-eval, public-effective-cost, public-schedule, public-route-distance, public-lateness-bound, public-gain-floor, public-time-window-new};
-ghost use Rattle.c_values.specs.VehicleOf.{vehicle-of};
+ghost use Rattle.c_vehicle.specs.VehicleOf.{vehicle-of};
 ghost use Rattle.c_values.specs.Said.{values, says, question, checked-values, number-values, eval-values, window-values};
 use c_answers::put_checked;
 use c_answers::put_evaluated;
 use c_answers::put_number;
 use c_answers::put_window;
-use c_values::fits::checked_misfit;
-use c_values::fits::evaluated_misfit;
-use c_values::fits::number_misfit;
-use c_values::fits::window_misfit;
-use c_values::vehicle::vehicle_of;
+use c_fits::checked_misfit;
+use c_fits::evaluated_misfit;
+use c_fits::number_misfit;
+use c_fits::window_misfit;
+use c_vehicle::vehicle_of;
 use models::vehicle::VehicleBreak;
 
 // Whether a route passes the check: found[0].
@@ -123,7 +123,7 @@ pub extern "C" fn cobrwydd_route_eval(
         latest,
         duration,
     );
-    let answer = planner_questions::route_eval(
+    let answer = worth_questions::route_eval(
         route,
         n,
         demand,
@@ -183,7 +183,7 @@ pub extern "C" fn cobrwydd_effective_cost(
         latest,
         duration,
     );
-    let answer = planner_questions::effective_cost(
+    let answer = worth_questions::effective_cost(
         route,
         n,
         demand,

@@ -2,8 +2,8 @@
 ghost use mathlib.Core.Path.{_≡_};
 ghost use Rattle.sheet_answers.specs.Printed.{printed};
 ghost use Rattle.cobrwydd.specs.Sheets.{prints, sheet-call};
+use c_fits::sheet_misfit;
 use c_reports::put_printed;
-use c_values::fits::sheet_misfit;
 use sheet_planner::plan_sheet;
 
 // What a text prints, its listing or the line of its refusal, in `out`, and in written[0] how many bytes that are.

@@ -1,5 +1,5 @@
-// The lines of a listing, written into lent bytes.
-ghost use Rattle.listing.specs.Listing.{stop, stops as Listing·stops, route-line, first-line, last-line, refusal-line};
+// The route lines of a listing, written into lent bytes.
+ghost use Rattle.listing.specs.Listing.{stop, stops as Listing·stops, route-line};
 ghost use Rattle.listing.specs.Written.{Room, Written};
 use listing_numbers::put_bytes;
 use listing_numbers::put_decimal;
@@ -48,47 +48,4 @@ pub fn put_route_line(
     let e = put_decimal(out, d, distance);
     let f = put_stops(out, e, stops);
     put_bytes(out, f, b"\n")
-}
-
-// The first line of a listing.
-pub fn put_first_line(out: &mut [u8], at: usize, routes: u64) -> usize
-    requires { ⌜ Room (now out) at (first-line routes) ⌝ }
-    ensures { λ r. ⌜ Written (now (out .entry)) at (first-line routes) (now (out .exit)) r ⌝ }
-{
-    let a = put_bytes(out, at, b"routes ");
-    let b = put_decimal(out, a, routes);
-    put_bytes(out, b, b"\n")
-}
-
-// The last line of a listing.
-pub fn put_last_line(
-    out: &mut [u8],
-    at: usize,
-    steps: u64,
-    draws: u64,
-    given: u64,
-    left: u64,
-) -> usize
-    requires { ⌜ Room (now out) at (last-line steps draws given left) ⌝ }
-    ensures { λ r. ⌜ Written (now (out .entry)) at (last-line steps draws given left) (now (out .exit)) r ⌝ }
-{
-    let a = put_bytes(out, at, b"steps ");
-    let b = put_decimal(out, a, steps);
-    let c = put_bytes(out, b, b" draws ");
-    let d = put_decimal(out, c, draws);
-    let e = put_bytes(out, d, b" given ");
-    let f = put_decimal(out, e, given);
-    let g = put_bytes(out, f, b" left ");
-    let h = put_decimal(out, g, left);
-    put_bytes(out, h, b"\n")
-}
-
-// The line of a refusal.
-pub fn put_refusal(out: &mut [u8], at: usize, number: u64) -> usize
-    requires { ⌜ Room (now out) at (refusal-line number) ⌝ }
-    ensures { λ r. ⌜ Written (now (out .entry)) at (refusal-line number) (now (out .exit)) r ⌝ }
-{
-    let a = put_bytes(out, at, b"refused ");
-    let b = put_decimal(out, a, number);
-    put_bytes(out, b, b"\n")
 }

@@ -9,7 +9,7 @@ use Rattle.models.specs.Problem.{Problem}
 use Rattle.plan.specs.Plan.{Slices}
 use Rattle.local_search.specs.declared.rounds.Reduction.{Reduction}
 use Rattle.local_search.specs.Search.{Answers}
-use Rattle.route_minimization.specs.Minimize.{minimize-routes}
+use Rattle.minimization.specs.Minimize.{minimize-routes}
 use Rattle.minimization_search.specs.Minimizing.{Searching}
 use Rattle.ejection_pool.specs.Running.{allowance}
 use Rattle.entry.specs.Table.{Work, refusal}

@@ -19,11 +19,11 @@ use Rattle.local_search.proofs.NextLaws.{in-use, next-kept, next-refused, next-
 use Rattle.pool_attempt.specs.declared.Attempted.{Attempted}
 use Rattle.pool_attempt.specs.declared.Attempted.the-variants.{Kept, Accepted}
 use Rattle.ejection_pool.specs.Pool.{Allowance}
-use Rattle.pool_attempt.specs.Attempt.{attempt}
-use Rattle.minimization_round.specs.Attempted.{attempt-reduces}
+use Rattle.pool_cost.specs.Attempt.{attempt}
+use Rattle.minimization.specs.Attempted.{attempt-reduces}
 use Rattle.pool_attempt.specs.Judged.{tried}
-use Rattle.route_attempt.specs.Attempting.{Leaves}
-use Rattle.pool_attempt.proofs.JudgedLaws.{cost-whole}
+use Rattle.route_attempt.specs.Leaves.{Leaves}
+use Rattle.pool_cost.proofs.CostLaws.{cost-whole}
 
 -- ---- the start of a round
 

@@ -15,8 +15,8 @@ use Rattle.local_search.specs.declared.rounds.Counts.{Counts}
 use Rattle.local_search.specs.Reduced.{triangle, triangle-is}
 use Rattle.local_search.proofs.SearchLaws.{Trying, trying-steps, trying-whole, trying-few, trying-planned}
 use Rattle.ejection_pool.specs.Pool.{Allowance}
-use Rattle.pool_attempt.specs.Attempt.{attempt}
-use Rattle.route_attempt.specs.Attempting.{Attempting}
+use Rattle.pool_cost.specs.Attempt.{attempt}
+use Rattle.route_without.specs.Attempting.{Attempting}
 
 -- a call of 256 routes counts fewer steps than this
 most-steps : (limit : ℕ) → limit ≤ 65535 → limit * triangle 256 ≤ 65535 * 32896

@@ -7,7 +7,7 @@ ghost use Rattle.evaluation.specs.Check.{route-checks-needed};
 ghost use Rattle.plan.specs.Plan.{split};
 ghost use Rattle.local_search.specs.Rounds.{reduce};
 ghost use Rattle.local_search.specs.Search.{Answers};
-ghost use Rattle.pool_attempt.specs.Attempt.{attempt};
+ghost use Rattle.pool_cost.specs.Attempt.{attempt};
 ghost use Rattle.ejection_pool.specs.Running.{allowance};
 ghost use Rattle.minimization_search.specs.Minimizing.{Searching};
 use local_search::rounds::Counts;

@@ -22,9 +22,9 @@ use Rattle.route_load.specs.RouteLaws.{feasible-sound}
 use Rattle.local_search.specs.Rounds.{Result}
 use Rattle.local_search.specs.Reduced.{triangle, triangle-is, triangle-mono}
 use Rattle.ejection_pool.specs.Pool.{Allowance}
-use Rattle.route_minimization.specs.Minimize.{minimize-routes}
-use Rattle.route_minimization.specs.Minimized.{Minimized, minimize-keeps}
-use Rattle.route_minimization.specs.Falls.{minimize-falls}
+use Rattle.minimization.specs.Minimize.{minimize-routes}
+use Rattle.minimization.specs.Minimized.{Minimized, minimize-keeps}
+use Rattle.minimization.specs.Falls.{minimize-falls}
 use Rattle.elimination_moves.specs.Eliminate.{eliminate-routes}
 use Rattle.elimination_moves.specs.Eliminated.{Eliminated, eliminate-keeps}
 use Rattle.entry.specs.Table.{Work, refusal}

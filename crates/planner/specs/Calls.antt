@@ -20,7 +20,7 @@ use Rattle.route_cost.specs.Route.{route-distance, gain-floor}
 use Rattle.local_search.specs.declared.rounds.Reduction.{Reduction}
 use Rattle.local_search.specs.Rounds.{Result}
 use Rattle.ejection_pool.specs.Pool.{Allowance}
-use Rattle.route_minimization.specs.Minimize.{minimize-routes}
+use Rattle.minimization.specs.Minimize.{minimize-routes}
 use Rattle.elimination_moves.specs.Eliminate.{eliminate-routes}
 use Rattle.entry.specs.Table.{Work, refusal}
 use Rattle.entry.specs.Given.{problem-inputs, route-inputs, schedule-inputs, minimise-inputs, eliminate-inputs}

@@ -4,7 +4,7 @@ use Rattle.lateness_bound.specs.Bound.{later-window, dearer-penalty, latest-win
 use Rattle.entry.specs.Table.{bad-lengths, stop-passes, stops-pass, too-few, table, first-applying, refusal}
 use Rattle.planner.specs.Calls.{public-route-feasible, public-route-eval, public-effective-cost, public-schedule, public-route-distance, public-lateness-bound, public-gain-floor, reply, public-minimise, public-eliminate}
 use Rattle.planner.specs.Run.{call, run, steps, draws, limits}
-use Rattle.route_minimization.specs.Opened.{opened as minimizing}
+use Rattle.minimization.specs.Opened.{opened as minimizing}
 use Rattle.elimination_moves.specs.Opened.{opened as eliminating}
 
 -- Every definition, for a theorem that is computed: `unfolding opened`.

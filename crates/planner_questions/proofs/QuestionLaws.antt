@@ -13,14 +13,13 @@ use Rattle.models.specs.Problem.{Problem, Fit, Stops, matrix, depot}
 use Rattle.models.proofs.ValidLaws.{valid-fit, valid-depot}
 use Rattle.break_clock.specs.declared.route_eval.Eval.{Eval}
 use Rattle.break_clock.specs.Schedule.{schedule}
-use Rattle.evaluation.specs.Eval.{route-eval, effective-cost}
 use Rattle.evaluation.specs.Check.{route-feasible}
 use Rattle.route_cost.specs.Route.{route-distance}
 use Rattle.local_search.proofs.ReadLaws.{distance-any}
 use Rattle.entry.specs.Table.{refusal}
 use Rattle.entry.specs.Given.{numbered, route-inputs, schedule-inputs}
 use Rattle.entry.proofs.AdmittedLaws.{not-refused, route-accepted, schedule-accepted}
-use Rattle.planner.specs.Calls.{refused, answered, unless-refused, public-route-feasible, public-route-eval, public-effective-cost, public-schedule, public-route-distance}
+use Rattle.planner.specs.Calls.{refused, answered, unless-refused, public-route-feasible, public-schedule, public-route-distance}
 
 -- ---- the code's number and the answer
 
@@ -38,14 +37,6 @@ module _ (p : Problem) (r : ℕ) where
       pub feasible-refused : (r ≡ 0 → ⊥) → refused r ≡ public-route-feasible p route
       unfolding public-route-feasible
       feasible-refused h = refuses r _ _ e h
-
-      pub eval-refused : (r ≡ 0 → ⊥) → refused r ≡ public-route-eval p route
-      unfolding public-route-eval
-      eval-refused h = refuses r _ _ e h
-
-      pub cost-refused : (r ≡ 0 → ⊥) → refused r ≡ public-effective-cost p route
-      unfolding public-effective-cost
-      cost-refused h = refuses r _ _ e h
 
       pub distance-refused : (r ≡ 0 → ⊥) → refused r ≡ public-route-distance p route
       unfolding public-route-distance
@@ -70,14 +61,6 @@ module _ (p : Problem) (r : ℕ) where
         pub feasible-answered : (l : RouteLimits) (x : Bool) → l ≡ limits-of (p .vehicle) → x ≡ route-feasible (p .places) (p .roads) (depot p) l route → answered x ≡ public-route-feasible p route
         unfolding public-route-feasible
         feasible-answered l x g f = answers r _ x _ e h (f ∙ ap (λ (k : RouteLimits). route-feasible (p .places) (p .roads) (depot p) k route) g)
-
-        pub eval-answered : (l : RouteLimits) (x : Eval) → l ≡ limits-of (p .vehicle) → x ≡ route-eval (p .places) (p .roads) (depot p) l route → answered x ≡ public-route-eval p route
-        unfolding public-route-eval
-        eval-answered l x g f = answers r _ x _ e h (f ∙ ap (λ (k : RouteLimits). route-eval (p .places) (p .roads) (depot p) k route) g)
-
-        pub cost-answered : (l : RouteLimits) (x : Float) → l ≡ limits-of (p .vehicle) → x ≡ effective-cost (p .places) (p .roads) (depot p) l route → answered x ≡ public-effective-cost p route
-        unfolding public-effective-cost
-        cost-answered l x g f = answers r _ x _ e h (f ∙ ap (λ (k : RouteLimits). effective-cost (p .places) (p .roads) (depot p) k route) g)
 
         pub distance-answered : (x : Float) → x ≡ route-distance (matrix (p .roads .size) (p .roads .distances) []) (depot p) route → answered x ≡ public-route-distance p route
         unfolding public-route-distance

@@ -1,12 +1,11 @@
--- The failures at the start, the plan that is left where the pool is emptied, and the test of its cost. Assumes nothing.
-use Prim.Native.Nat.{ℕ, zero, suc, _-_, _≤_}
-use mathlib.Core.Path.{_≡_, refl, sym, ap, subst, _∙_}
+-- The plan that is left where the pool is emptied, and what the test of its cost makes of it. Assumes nothing.
+use Prim.Native.Nat.{ℕ, zero, suc, _≤_}
+use mathlib.Core.Path.{_≡_, refl, sym, ap, _∙_}
 use mathlib.Core.Bool.{Bool, true, false}
 use mathlib.Core.List.{List, [], _∷_}
-use mathlib.Core.Option.{some}
-use native.Mathlib.Nat.{le-of-suc-le-suc, not-suc-le-zero}
+use mathlib.Core.Option.{Option, some}
 use native.Mathlib.Omega.{arith}
-use lib.ListN.{length, take, replicate}
+use lib.ListN.{length}
 use lib.Ieee.{Float, lt}
 use Rattle.floats.specs.Binary64.{_⊖_, _⊗_, 1e-12, abs}
 use Rattle.laws.specs.All.{All}
@@ -17,47 +16,16 @@ use Rattle.local_search.specs.Options.{Each, each-found, bind, then-some}
 use Rattle.local_search.specs.Planned.{Planned, planned-stops}
 use Rattle.route_cost.specs.Route.{cost}
 use Rattle.local_search.specs.Rounds.{Tried}
-use Rattle.local_search.proofs.ReadLaws.{cost-any}
 use Rattle.pool_turns.specs.declared.Emptied.{Emptied}
 use Rattle.pool_turns.specs.declared.Emptied.the-variants.{Failed, Done}
 use Rattle.pool_attempt.specs.declared.Attempted.the-variants.{Kept, Accepted}
 use Rattle.ejection_pool.specs.Pool.{Allowance, State, Turn, stop, more, turn, at-limit, run-pool}
-use Rattle.pool_attempt.specs.Attempt.{if-cheaper}
 use Rattle.ejection_pool.specs.Turns.{Then, turn-rule, pool-rule}
 use Rattle.ejection_pool.specs.Pooled.{Pooled, pooled-planned, pooled-more}
 use Rattle.ejection_pool.specs.Running.{Running, state}
 use Rattle.pool_turns.specs.Ends.{said}
+use Rattle.pool_cost.proofs.CostLaws.{cheaper-tested}
 use Rattle.pool_attempt.specs.Judged.{tried, judged}
-
--- ---- the failures at the start
-
-front-ones : (n m : ℕ) → n ≤ m → take {A = ℕ} n (replicate m 1) ≡ replicate n 1
-front-ones zero m h = refl
-front-ones (suc n) zero h = absurd (not-suc-le-zero h)
-front-ones (suc n) (suc m) h = ap (λ (l : List ℕ). 1 ∷ l) (front-ones n m (le-of-suc-le-suc h))
-
-abbrev ones : ℕ → List ℕ
-ones n = take {A = ℕ} (n - 0) (replicate 256 1)
-
-module _ {p : Problem} {tape : List ℕ} {needed : Bool} {limit : ℕ} {ls s pool work : List ℕ} {cells : List Float} {start : ℕ} {counts : Counts}
-    (g : Running p tape needed limit ls s pool work (replicate (p .roads .size) 1) cells start counts) where
-  ones-are : replicate (p .roads .size) 1 ≡ ones (p .roads .size)
-  ones-are =
-      let n = p .roads .size in
-      let e : n - 0 ≡ n = omega arith in
-      sym (ap (λ (k : ℕ). take {A = ℕ} k (replicate 256 1)) e ∙ front-ones n 256 (g .admitted .fit .square .few))
-
-  pub ones-running : Running p tape needed limit ls s pool work (ones (p .roads .size)) cells start counts
-  ones-running = subst (λ (f : List ℕ). Running p tape needed limit ls s pool work f cells start counts) ones-are g
-
-  pub ones-emptied : (given : Allowance) (x : Tried) → x ≡ run-pool given p limit (state ls s pool start (ones (p .roads .size)) counts)
-      → x ≡ run-pool given p limit (state ls s pool start (replicate (p .roads .size) 1) counts)
-  ones-emptied given x e = e ∙ ap (λ (f : List ℕ). run-pool given p limit (state ls s pool start f counts)) (sym ones-are)
-
--- ---- the cost
-
-pub cheaper-is : (cost v before a : Float) → v ≡ cost → a ≡ abs before → lt v (before ⊖ 1e-12 ⊗ a) ≡ lt cost (before ⊖ 1e-12 ⊗ abs before)
-cheaper-is cost v before a e f = rw (e, f)
 
 -- ---- what is left of the pool
 
@@ -94,12 +62,6 @@ module _ (given : Allowance) {p : Problem} {tape : List ℕ} {needed : Bool} {li
       let few : length s ≤ 256 = omega (arith, g .few) in
       planned-stops (p .roads .size) plan (each-found (Planned (p .roads .size)) (t .plan) d (pool-planned given p (length s) few limit (state ls s pool start failures counted) (g .pooled)))
 
--- the cost reads the distances alone
-pub cost-whole : (p : Problem) (plan : Plan) → cost (of-distances (p .roads .size) (p .roads .distances) (p .vehicle)) plan ≡ cost p plan
-cost-whole p plan =
-    let c = p .places in
-    cost-any (p .roads .size) (p .demand) (c .service) (c .ready) (c .due) (c .penalty) (c .flags) (p .roads .distances) (p .roads .times) (p .vehicle) plan _ refl
-
 -- the test of the cost
 module _ (p : Problem) (before : Float) (t : Tried) (plan : Plan) (counts : Counts) (x : Emptied) (e : said x plan ≡ t) where
   pub judged-failed : x ≡ Failed counts → tried (Kept counts) plan ≡ judged p before t
@@ -107,16 +69,17 @@ module _ (p : Problem) (before : Float) (t : Tried) (plan : Plan) (counts : Coun
   judged-failed f = ap (λ (y : Emptied). judged p before (said y plan)) (sym f) ∙ ap (judged p before) e
 
   module _ (f : x ≡ Done counts) (v : Bool) (c : v ≡ lt (cost (of-distances (p .roads .size) (p .roads .distances) (p .vehicle)) plan) (before ⊖ 1e-12 ⊗ abs before)) where
-    tested : v ≡ lt (cost p plan) (before ⊖ 1e-12 ⊗ abs before)
-    tested = c ∙ ap (λ (z : Float). lt z (before ⊖ 1e-12 ⊗ abs before)) (cost-whole p plan)
-
     emptied : judged p before (said (Done counts) plan) ≡ judged p before t
     emptied = ap (λ (y : Emptied). judged p before (said y plan)) (sym f) ∙ ap (judged p before) e
 
+    answer : record { plan = then-some v plan; counts = counts } ≡ judged p before t
+    unfolding bind
+    answer = ap (λ (o : Option Plan). record { plan = o; counts = counts }) (cheaper-tested p before plan v c) ∙ emptied
+
     pub judged-cheaper : v ≡ true → tried (Accepted counts) plan ≡ judged p before t
-    unfolding bind if-cheaper then-some
-    judged-cheaper g = ap (λ (b : Bool). record { plan = then-some b plan; counts = counts }) (sym g ∙ tested) ∙ emptied
+    unfolding then-some
+    judged-cheaper g = ap (λ (b : Bool). record { plan = then-some b plan; counts = counts }) (sym g) ∙ answer
 
     pub judged-dearer : v ≡ false → tried (Kept counts) plan ≡ judged p before t
-    unfolding bind if-cheaper then-some
-    judged-dearer g = ap (λ (b : Bool). record { plan = then-some b plan; counts = counts }) (sym g ∙ tested) ∙ emptied
+    unfolding then-some
+    judged-dearer g = ap (λ (b : Bool). record { plan = then-some b plan; counts = counts }) (sym g) ∙ answer

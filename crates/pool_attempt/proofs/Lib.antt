@@ -1,3 +1,3 @@
--- What the functions' proofs lean on.
--- the failures at the start, the plan that is left, the test of its cost
+-- What the function's proof leans on.
+-- the plan that is left, the test of its cost
 pub mod JudgedLaws

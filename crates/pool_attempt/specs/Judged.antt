@@ -7,7 +7,7 @@ use Rattle.local_search.specs.Options.{bind}
 use Rattle.local_search.specs.Rounds.{Tried}
 use Rattle.pool_attempt.specs.declared.Attempted.{Attempted}
 use Rattle.pool_attempt.specs.declared.Attempted.the-variants.{Kept, Accepted}
-use Rattle.pool_attempt.specs.Attempt.{if-cheaper}
+use Rattle.pool_cost.specs.Attempt.{if-cheaper}
 
 -- the plan that is left where the attempt is accepted
 abbrev pub tried : Attempted → Plan → Tried

@@ -1,5 +1,3 @@
--- The attempt at a route, and what the code says of it. A file uses only files above it in this list.
--- the attempt
-pub mod Attempt
+-- What the code says of the attempt at a route.
 -- what it answers
 pub mod Judged

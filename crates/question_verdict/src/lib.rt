@@ -49,7 +49,7 @@ fn ask_of_route(
         ));
     }
     if kind == 3 {
-        return of_evaluated(planner_questions::route_eval(
+        return of_evaluated(worth_questions::route_eval(
             route,
             n,
             demand,
@@ -64,7 +64,7 @@ fn ask_of_route(
         ));
     }
     if kind == 4 {
-        return of_number(planner_questions::effective_cost(
+        return of_number(worth_questions::effective_cost(
             route,
             n,
             demand,

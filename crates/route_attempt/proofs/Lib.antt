@@ -1,3 +1,3 @@
--- What the functions' proofs lean on.
--- the pool at the start, the plan without the route, the slices after it
+-- What the function's proof leans on.
+-- the slices saved, restored and left
 pub mod AttemptLaws

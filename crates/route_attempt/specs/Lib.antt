@@ -1,3 +1,3 @@
 -- The attempt at a route, as the code makes it.
--- what it asks for and leaves
-pub mod Attempting
+-- what it leaves
+pub mod Leaves

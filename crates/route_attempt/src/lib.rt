@@ -1,99 +1,22 @@
 // An attempt to empty a route into the others (local_search/route_minimization.rs, the body of the round in `minimize_routes`).
 ghost use mathlib.Core.Path.{_≡_};
-ghost use mathlib.Core.List.{reverse};
 ghost use Prim.Native.Nat.{_<_, _≤_};
 ghost use lib.ListN.{length};
 ghost use Rattle.models.specs.Problem.{problem};
-ghost use Rattle.plan.specs.Plan.{Lent, split, route};
+ghost use Rattle.plan.specs.Plan.{split};
 ghost use Rattle.route_cost.specs.Route.{cost};
-ghost use Rattle.ejection_made.specs.Made.{stack};
-ghost use Rattle.pool_attempt.specs.Attempt.{attempt};
+ghost use Rattle.pool_cost.specs.Attempt.{attempt};
 ghost use Rattle.ejection_pool.specs.Running.{allowance};
-ghost use Rattle.local_search.specs.Search.{Ends-with-0, but-last};
+ghost use Rattle.local_search.specs.Search.{but-last};
 ghost use Rattle.pool_attempt.specs.Judged.{tried};
-ghost use Rattle.route_attempt.specs.Attempting.{Attempting, Leaves};
-use cells::copy_part;
+ghost use Rattle.route_without.specs.Attempting.{Attempting};
+ghost use Rattle.route_attempt.specs.Leaves.{Leaves};
 use local_search::rounds::Counts;
 use models::vehicle::Vehicle;
-use plan::offset;
 use pool_attempt::Attempted;
-use pool_attempt::try_rest;
-use route_removal::erase_route;
 use route_removal::restore;
 use route_removal::save;
-
-// Route r goes to the first cells of the pool. Returns how many stops it has.
-fn to_pool(pool: &mut [u16], lengths: &[u16], stops: &[u16], r: usize) -> usize
-    requires { ⌜ Lent (now lengths) (now stops) × (r < length (now lengths)) × (length (now stops) ≤ length (now pool)) ⌝ }
-    ensures { λ k. ⌜ stack (now (pool .exit)) k ≡ reverse (route r (split (now (lengths .entry)) (now (stops .entry)))) ⌝ }
-{
-    let at = offset(lengths, r);
-    let count = lengths[r] as usize;
-    copy_part(pool, 0, stops, at, count);
-    count
-}
-
-// Route r is taken out of the plan and emptied into the others. The work cells are free.
-fn try_without(
-    lengths: &mut [u16],
-    stops: &mut [u16],
-    work: &mut [u16],
-    cells: &mut [f64],
-    tape: &[u64],
-    r: usize,
-    before: f64,
-    limit: usize,
-    clock: u64,
-    counted: Counts,
-    needed: bool,
-    vehicle: Vehicle,
-    demand: &[i32],
-    n: usize,
-    distances: &[f64],
-    times: &[f64],
-    service: &[f64],
-    ready: &[f64],
-    due: &[f64],
-    penalty: &[f64],
-    flags: &[u8],
-) -> Attempted
-    requires { ⌜ Attempting (problem n (now demand) (now service) (now ready) (now due) (now penalty) (now flags) (now distances) (now times) vehicle) (now tape) needed limit
-        (now lengths) (now stops) (now work) (now cells) counted ⌝ }
-    requires { ⌜ (r < length (now lengths)) × (before ≡ cost (problem n (now demand) (now service) (now ready) (now due) (now penalty) (now flags) (now distances) (now times) vehicle) (split (now lengths) (now stops))) ⌝ }
-    ensures plan { λ a. ⌜ tried a (split (but-last (now (lengths .exit))) (now (stops .exit))) ≡ attempt (allowance limit clock (now (tape .entry))) (problem n (now (demand .entry)) (now (service .entry)) (now (ready .entry)) (now (due .entry)) (now (penalty .entry)) (now (flags .entry))
-        (now (distances .entry)) (now (times .entry)) vehicle)
-        (split (now (lengths .entry)) (now (stops .entry))) r counted ⌝ }
-    ensures held { λ _. ⌜ Ends-with-0 (now (lengths .exit)) (now (stops .exit)) ⌝ }
-{
-    let mut pool = [0u16; 256];
-    let start = to_pool(&mut pool, lengths, stops, r);
-    erase_route(lengths, stops, r);
-    let rest = lengths.len() - 1;
-    try_rest(
-        &mut lengths[0..rest],
-        stops,
-        &mut pool,
-        work,
-        cells,
-        tape,
-        start,
-        before,
-        limit,
-        clock,
-        counted,
-        needed,
-        vehicle,
-        demand,
-        n,
-        distances,
-        times,
-        service,
-        ready,
-        due,
-        penalty,
-        flags,
-    )
-}
+use route_without::try_without;
 
 // The attempt at route r of a plan that costs `before`. Where the plan is kept both slices are as they were; the first work cells hold them meanwhile.
 pub fn attempt(

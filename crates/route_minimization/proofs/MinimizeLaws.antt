@@ -14,8 +14,8 @@ use Rattle.local_search.specs.declared.rounds.Counts.{Counts}
 use Rattle.local_search.specs.Rounds.{reduce}
 use Rattle.local_search.specs.Search.{Answers}
 use Rattle.ejection_pool.specs.Pool.{Allowance}
-use Rattle.pool_attempt.specs.Attempt.{attempt}
-use Rattle.route_minimization.specs.Minimize.{minimize-routes}
+use Rattle.pool_cost.specs.Attempt.{attempt}
+use Rattle.minimization.specs.Minimize.{minimize-routes}
 
 module _ (given : Allowance) (p : Problem) (ls s : List ℕ) (v : Bool) (e : v ≡ has-soft-windows (p .places .flags)) where
   pub soft-answers : total ls ≡ length s → v ≡ true → Answers (minimize-routes given p (split ls s)) (length ls) (length ls) (record { steps = 0; draws = 0 }) ls s

@@ -1,9 +1,9 @@
-// Route minimisation with an ejection pool (local_search/route_minimization.rs). The definitions and the theorems about them are in specs/.
+// Route minimisation with an ejection pool (local_search/route_minimization.rs, `minimize_routes`). Its definition and the theorems about it are in `minimization`.
 ghost use lib.ListN.{length};
 ghost use Rattle.models.specs.Problem.{problem};
 ghost use Rattle.plan.specs.Plan.{split};
 ghost use Rattle.local_search.specs.Search.{Answers};
-ghost use Rattle.route_minimization.specs.Minimize.{minimize-routes};
+ghost use Rattle.minimization.specs.Minimize.{minimize-routes};
 ghost use Rattle.ejection_pool.specs.Running.{allowance};
 ghost use Rattle.minimization_search.specs.Minimizing.{Searching};
 use local_search::feasible::constrained;

@@ -10,7 +10,7 @@ use Rattle.plan.specs.Plan.{Slices, written}
 use Rattle.local_search.specs.declared.rounds.Counts.{Counts}
 use Rattle.local_search.specs.declared.rounds.Reduction.{Reduction}
 use Rattle.ejection_pool.specs.Running.{allowance}
-use Rattle.route_minimization.specs.Minimize.{minimize-routes}
+use Rattle.minimization.specs.Minimize.{minimize-routes}
 use Rattle.elimination_moves.specs.Eliminate.{eliminate-routes}
 use Rattle.entry.specs.Table.{refusal}
 use Rattle.entry.specs.Given.{minimise-inputs, eliminate-inputs}

@@ -17,8 +17,8 @@ use Rattle.local_search.specs.declared.rounds.Reduction.{Reduction}
 use Rattle.local_search.specs.Rounds.{Result}
 use Rattle.ejection_pool.specs.Pool.{Allowance}
 use Rattle.ejection_pool.specs.Running.{allowance}
-use Rattle.route_minimization.specs.Minimize.{minimize-routes}
-use Rattle.route_minimization.specs.Minimized.{minimize-keeps}
+use Rattle.minimization.specs.Minimize.{minimize-routes}
+use Rattle.minimization.specs.Minimized.{minimize-keeps}
 use Rattle.elimination_moves.specs.Eliminate.{eliminate-routes}
 use Rattle.elimination_moves.specs.Eliminated.{eliminate-keeps}
 use Rattle.entry.specs.Table.{Work, refusal}

@@ -7,16 +7,16 @@ use models::customer::Customer;
 use models::customer::Penalty;
 use models::customer::TimeWindow;
 use models::customer::Window;
+use sheet_fields::number_before;
+use sheet_fields::optional_before;
+use sheet_fields::signed_before;
 use sheet_text::numbers::Next;
 use sheet_text::numbers::NumberAt;
 use sheet_text::numbers::OptionalAt;
 use sheet_text::numbers::SignedAt;
 use sheet_text::numbers::byte;
 use sheet_text::numbers::number;
-use sheet_text::numbers::number_before;
-use sheet_text::numbers::optional_before;
 use sheet_text::numbers::peek;
-use sheet_text::numbers::signed_before;
 
 // A place's line: its demand, and what the evaluation of a route reads of it.
 pub struct Place {

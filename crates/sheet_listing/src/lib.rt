@@ -5,7 +5,7 @@ ghost use lib.ListN.{length};
 ghost use Rattle.sheet_reader.specs.Cells.{columns-of, Room as ColumnRoom};
 ghost use Rattle.listing.specs.Written.{Written};
 ghost use Rattle.sheet_answers.specs.Printed.{printed};
-use listing_lines::put_refusal;
+use listing_totals::put_refusal;
 use sheet_parts::list_parts;
 use sheet_whole::sheet::SheetAt;
 use sheet_whole::sheet::sheet;

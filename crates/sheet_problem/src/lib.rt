@@ -2,17 +2,17 @@
 ghost use mathlib.Core.Path.{_≡_};
 ghost use Prim.Native.Nat.{_≤_};
 ghost use lib.ListN.{length};
-ghost use Rattle.sheet_format.specs.Form.{with-rest, whole-problem};
+ghost use Rattle.sheet_format.specs.Form.{whole-problem};
 ghost use Rattle.sheet_reader.specs.Cells.{columns-of, Room};
 ghost use Rattle.sheet_problem.specs.Told.{told-problem, ProblemWithin};
-use models::vehicle::Rest;
 use models::vehicle::Vehicle;
 use sheet_reader::places::places;
+use sheet_rest::RestAt;
+use sheet_rest::rest;
+use sheet_rest::with_rest;
 use sheet_roads::roads;
 use sheet_text::words::Count;
-use sheet_vehicle::RestAt;
 use sheet_vehicle::VehicleAt;
-use sheet_vehicle::rest;
 use sheet_vehicle::vehicle;
 
 // How many places there are, how many rows of times, and the vehicle.
@@ -26,23 +26,6 @@ pub struct Head {
 pub enum ProblemAt {
     Got(Head, usize),
     Refused(u8),
-}
-
-// The vehicle with its break.
-fn with_rest(v: Vehicle, rest: Rest) -> Vehicle
-    ensures { λ r. ⌜ r ≡ with-rest v rest ⌝ }
-{
-    let max_distance = v.max_distance;
-    let max_duration = v.max_duration;
-    Vehicle {
-        capacity: v.capacity,
-        depot_id: v.depot_id,
-        fixed_cost: v.fixed_cost,
-        cost_per_distance: v.cost_per_distance,
-        max_distance,
-        max_duration,
-        rest,
-    }
 }
 
 // The sections of the problem, into the slices.

@@ -8,10 +8,10 @@ ghost use Rattle.sheet_format.specs.Form.{square as Form·square, distances as 
 ghost use Rattle.sheet_reader.specs.Cells.{front, filled, AtMost};
 ghost use Rattle.sheet_roads.specs.Roads.{filled-section, filled-square, filled-roads};
 ghost use Rattle.sheet_format.specs.Form.{row-by-row};
+use sheet_fields::number_before;
 use sheet_headings::heading;
 use sheet_text::numbers::Next;
 use sheet_text::numbers::NumberAt;
-use sheet_text::numbers::number_before;
 use sheet_text::words::Count;
 use sheet_text::words::ending;
 

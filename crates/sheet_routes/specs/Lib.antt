@@ -1,2 +1,2 @@
--- how lent slices hold draws and routes
+-- how lent slices hold routes
 pub mod Routes

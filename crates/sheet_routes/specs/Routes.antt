@@ -1,4 +1,4 @@
--- How lent slices hold the draws and the routes. Assumes nothing.
+-- How lent slices hold the routes. Assumes nothing.
 use Prim.Native.Nat.{ℕ, _+_, _≤_}
 use mathlib.Core.List.{List}
 use lib.ListN.{length, take}
@@ -10,11 +10,6 @@ use Rattle.sheet_routes.specs.declared.routes.PlanAt.{PlanAt}
 use Rattle.sheet_routes.specs.declared.routes.PlanAt.the-variants.{Got as PlanGot, Refused as PlanRefused}
 use Rattle.sheet_format.specs.Form.{stop-cell}
 use Rattle.sheet_reader.specs.Cells.{front}
-
--- so many cells of a slice
-abbrev pub filled-count : {A : Type 0} → List A → Count → Reading (List A)
-filled-count cells (CountGot n i) = got (take n cells) i
-filled-count cells (CountRefused k) = refused k
 
 -- a route behind the stops that are used: its length, and the stops up to its end
 abbrev pub route-behind : ℕ → List ℕ → List ℕ → ℕ × List ℕ

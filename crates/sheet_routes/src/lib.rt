@@ -1,2 +1,2 @@
-// Reads the draws and the routes of a sheet into lent slices.
+// Reads the routes of a sheet into lent slices.
 pub mod routes;

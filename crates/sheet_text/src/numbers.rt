@@ -1,9 +1,9 @@
 // Bytes and numbers at a position.
 ghost use mathlib.Core.Path.{_≡_};
 ghost use Prim.Native.Nat.{_+_, _<_, _^_};
-ghost use Rattle.sheet_text.specs.Text.{got, byte-at, before, is-end};
-ghost use Rattle.sheet_text.specs.Text.{byte as Text·byte, digits as Text·digits, number as Text·number, signed as Text·signed, optional as Text·optional};
-ghost use Rattle.sheet_text.specs.Told.{told-next, told-number, told-signed, told-optional, Short};
+ghost use Rattle.sheet_text.specs.Text.{got, byte-at, is-end};
+ghost use Rattle.sheet_text.specs.Text.{byte as Text·byte, digits as Text·digits, number as Text·number};
+ghost use Rattle.sheet_text.specs.Told.{told-next, told-number, Short};
 
 // The position after what was read, or 11.
 pub enum Next {
@@ -79,7 +79,7 @@ fn digits(s: &[u8], at: usize) -> Run
 }
 
 // Whether a token ends before x: a space, LF or the end of the text.
-fn is_end(x: u16) -> bool
+pub fn is_end(x: u16) -> bool
     ensures { λ r. ⌜ r ≡ is-end x ⌝ }
 {
     if x == 32 {
@@ -110,87 +110,4 @@ pub fn number(s: &[u8], at: usize) -> NumberAt
         return NumberAt::Got(run.value, end);
     }
     NumberAt::Bad
-}
-
-// A number and the byte behind it.
-pub fn number_before(s: &[u8], at: usize, b: u8) -> NumberAt
-    ensures { λ r. ⌜ told-number r ≡ before b Text·number (now (s .entry)) at ⌝ }
-{
-    let NumberAt::Got(v, i) = number(s, at) else {
-        return NumberAt::Bad;
-    };
-    let Next::At(j) = byte(s, i, b) else {
-        return NumberAt::Bad;
-    };
-    NumberAt::Got(v, j)
-}
-
-// A number that may have a minus sign before it.
-fn signed(s: &[u8], at: usize) -> SignedAt
-    ensures { λ r. ⌜ told-signed r ≡ Text·signed (now (s .entry)) at ⌝ }
-{
-    let x = peek(s, at);
-    if x == 45 {
-        let NumberAt::Got(v, i) = number(s, at + 1) else {
-            return SignedAt::Bad;
-        };
-        return SignedAt::Got(-(v as i32), i);
-    }
-    let NumberAt::Got(v, i) = number(s, at) else {
-        return SignedAt::Bad;
-    };
-    SignedAt::Got(v as i32, i)
-}
-
-// The same, and the byte behind it.
-pub fn signed_before(s: &[u8], at: usize, b: u8) -> SignedAt
-    ensures { λ r. ⌜ told-signed r ≡ before b Text·signed (now (s .entry)) at ⌝ }
-{
-    let SignedAt::Got(v, i) = signed(s, at) else {
-        return SignedAt::Bad;
-    };
-    let Next::At(j) = byte(s, i, b) else {
-        return SignedAt::Bad;
-    };
-    SignedAt::Got(v, j)
-}
-
-// A number, or a lone minus sign.
-fn optional(s: &[u8], at: usize) -> OptionalAt
-    ensures { λ r. ⌜ told-optional r ≡ Text·optional (now (s .entry)) at ⌝ }
-{
-    let x = peek(s, at);
-    if x == 45 {
-        let e = peek(s, at + 1);
-        if is_end(e) {
-            return OptionalAt::Nothing(at + 1);
-        }
-        return OptionalAt::Bad;
-    }
-    let NumberAt::Got(v, i) = number(s, at) else {
-        return OptionalAt::Bad;
-    };
-    OptionalAt::Got(v, i)
-}
-
-// The same, and the byte behind it.
-pub fn optional_before(s: &[u8], at: usize, b: u8) -> OptionalAt
-    ensures { λ r. ⌜ told-optional r ≡ before b Text·optional (now (s .entry)) at ⌝ }
-{
-    let o = optional(s, at);
-    match o {
-        OptionalAt::Got(v, i) => {
-            let Next::At(j) = byte(s, i, b) else {
-                return OptionalAt::Bad;
-            };
-            OptionalAt::Got(v, j)
-        }
-        OptionalAt::Nothing(i) => {
-            let Next::At(j) = byte(s, i, b) else {
-                return OptionalAt::Bad;
-            };
-            OptionalAt::Nothing(j)
-        }
-        OptionalAt::Bad => OptionalAt::Bad,
-    }
 }

@@ -1,18 +1,18 @@
-// Reads the sections of the vehicle and of its break.
+// Reads the section of the vehicle.
 ghost use mathlib.Core.Path.{_≡_};
-ghost use Rattle.sheet_format.specs.Form.{limit as Form·limit, vehicle-line, rest-line, break};
+ghost use Rattle.sheet_format.specs.Form.{limit as Form·limit, vehicle-line};
 ghost use Rattle.sheet_format.specs.Form.{vehicle as Form·vehicle};
-ghost use Rattle.sheet_vehicle.specs.Told.{told-limit, told-vehicle, told-rest};
+ghost use Rattle.sheet_vehicle.specs.Told.{told-limit, told-vehicle};
 use models::vehicle::Limit;
 use models::vehicle::Rest;
 use models::vehicle::Vehicle;
+use sheet_fields::number_before;
+use sheet_fields::optional_before;
+use sheet_fields::signed_before;
 use sheet_headings::heading;
 use sheet_text::numbers::NumberAt;
 use sheet_text::numbers::OptionalAt;
 use sheet_text::numbers::SignedAt;
-use sheet_text::numbers::number_before;
-use sheet_text::numbers::optional_before;
-use sheet_text::numbers::signed_before;
 use sheet_text::words::Count;
 
 pub enum LimitAt {
@@ -22,11 +22,6 @@ pub enum LimitAt {
 
 pub enum VehicleAt {
     Got(Vehicle, usize),
-    Refused(u8),
-}
-
-pub enum RestAt {
-    Got(Rest, usize),
     Refused(u8),
 }
 
@@ -89,40 +84,5 @@ pub fn vehicle(s: &[u8], at: usize) -> VehicleAt
     match h {
         Count::Refused(k) => VehicleAt::Refused(k),
         Count::Got(_, i) => vehicle_line(s, i),
-    }
-}
-
-// The break's line.
-fn rest_line(s: &[u8], at: usize) -> RestAt
-    ensures { λ r. ⌜ told-rest r ≡ rest-line (now (s .entry)) at ⌝ }
-{
-    let NumberAt::Got(earliest, i) = number_before(s, at, 32) else {
-        return RestAt::Refused(11);
-    };
-    let NumberAt::Got(latest, j) = number_before(s, i, 32) else {
-        return RestAt::Refused(11);
-    };
-    let NumberAt::Got(duration, e) = number_before(s, j, 10) else {
-        return RestAt::Refused(11);
-    };
-    RestAt::Got(
-        Rest::Break(earliest as f64, latest as f64, duration as f64),
-        e,
-    )
-}
-
-// The section of the break.
-pub fn rest(s: &[u8], at: usize) -> RestAt
-    ensures { λ r. ⌜ told-rest r ≡ break (now (s .entry)) at ⌝ }
-{
-    let h = heading(s, at, b"break", 0, 1, 11);
-    match h {
-        Count::Refused(k) => RestAt::Refused(k),
-        Count::Got(m, i) => {
-            if m == 0 {
-                return RestAt::Got(Rest::None, i);
-            }
-            rest_line(s, i)
-        }
     }
 }

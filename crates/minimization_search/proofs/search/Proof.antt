@@ -9,8 +9,8 @@ use Rattle.route_order.specs.Order.{following}
 use Rattle.ejection_pool.specs.Running.{allowance}
 use Rattle.route_cost.specs.Route.{cost}
 use Rattle.local_search.proofs.SearchLaws.{Rounding, Trying, rounding-start, round-lent, round-same, trying-start, front-length, front-in, trying-routes, trying-routes-few, back-long, at-end, after-kept-less, after-kept, after-accepted-less, after-accepted}
-use Rattle.pool_attempt.specs.Attempt.{attempt}
-use Rattle.minimization_round.specs.Attempted.{attempt-reduces}
+use Rattle.pool_cost.specs.Attempt.{attempt}
+use Rattle.minimization.specs.Attempted.{attempt-reduces}
 use Rattle.minimization_round.proofs.NextLaws.{round-cost}
 use Rattle.minimization_search.proofs.SearchLaws.{trying-attempt}
 use Rattle.minimization_search.proofs.search.Statement.{statement}

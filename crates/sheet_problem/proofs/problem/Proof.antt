@@ -5,7 +5,8 @@ use borrow.Author.Needs.{needs}
 use Rattle.sheet_problem.proofs.ProblemLaws.{square-fits, no-vehicle, no-places, no-roads, no-break, problem-got}
 use Rattle.sheet_reader.specs.Cells.{AtMost, filled-places}
 use Rattle.sheet_roads.specs.Roads.{filled-roads}
-use Rattle.sheet_vehicle.specs.Told.{told-vehicle, told-rest}
+use Rattle.sheet_vehicle.specs.Told.{told-vehicle}
+use Rattle.sheet_rest.specs.Told.{told-rest}
 use Rattle.sheet_text.proofs.ReadLaws.{told}
 use Rattle.sheet_problem.proofs.problem.Statement.{statement}
 use Rattle.sheet_problem.proofs.problem.Tie as tie

@@ -1,5 +1,5 @@
 -- `calls::cobrwydd_eliminate` meets its contract.
-use Rattle.c_values.proofs.VehicleLaws.{vehicle-kept}
+use Rattle.c_vehicle.proofs.VehicleLaws.{vehicle-kept}
 use Rattle.c_values.proofs.AnswerLaws.{numbers-fit, misfit-replied, call-replied, reply-free}
 use borrow.Author.Needs.{needs}
 use mathlib.Core.Path.{refl}

@@ -1,5 +1,5 @@
 -- `lists::cobrwydd_run_calls` meets its contract.
-use Rattle.c_values.proofs.VehicleLaws.{vehicle-kept}
+use Rattle.c_vehicle.proofs.VehicleLaws.{vehicle-kept}
 use Rattle.cobrwydd.proofs.ListLaws.{list-misfit, list-told}
 use borrow.Author.Needs.{needs}
 use Rattle.cobrwydd.proofs.lists.cobrwydd_run_calls.Statement.{statement}

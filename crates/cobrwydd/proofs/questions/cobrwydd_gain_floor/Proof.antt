@@ -1,5 +1,5 @@
 -- `questions::cobrwydd_gain_floor` meets its contract.
-use Rattle.c_values.proofs.VehicleLaws.{vehicle-kept}
+use Rattle.c_vehicle.proofs.VehicleLaws.{vehicle-kept}
 use Rattle.c_values.proofs.AnswerLaws.{floats-fit, misfit-said, answer-said}
 use borrow.Author.Needs.{needs}
 use Rattle.cobrwydd.proofs.questions.cobrwydd_gain_floor.Statement.{statement}

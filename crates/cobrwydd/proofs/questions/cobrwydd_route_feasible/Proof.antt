@@ -1,5 +1,5 @@
 -- `questions::cobrwydd_route_feasible` meets its contract.
-use Rattle.c_values.proofs.VehicleLaws.{vehicle-kept}
+use Rattle.c_vehicle.proofs.VehicleLaws.{vehicle-kept}
 use Rattle.c_values.proofs.AnswerLaws.{numbers-fit, misfit-said, answer-said}
 use borrow.Author.Needs.{needs}
 use Rattle.cobrwydd.proofs.questions.cobrwydd_route_feasible.Statement.{statement}

@@ -3,7 +3,8 @@ use mathlib.Core.Path.{subst}
 use borrow.Author.Needs.{needs}
 use Rattle.sheet_whole.proofs.RequestLaws.{no-draws, no-routes, no-run, request-got}
 use Rattle.sheet_reader.specs.Cells.{AtMost}
-use Rattle.sheet_routes.specs.Routes.{PlanWithin, filled-count, filled-plan}
+use Rattle.sheet_draws.specs.Draws.{filled-count}
+use Rattle.sheet_routes.specs.Routes.{PlanWithin, filled-plan}
 use Rattle.sheet_run.specs.Run.{told-run}
 use Rattle.sheet_text.proofs.ReadLaws.{told}
 use Rattle.sheet_whole.proofs.request.request.Statement.{statement}

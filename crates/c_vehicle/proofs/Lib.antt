@@ -1,0 +1,3 @@
+-- Laws of this crate's definitions.
+-- the vehicle
+pub mod VehicleLaws

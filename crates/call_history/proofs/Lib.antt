@@ -1,0 +1,3 @@
+-- What the functions' proofs lean on.
+-- what is recorded
+pub mod PutLaws

@@ -1,3 +1,0 @@
--- An attempt of a round.
--- what it keeps
-pub mod Attempted

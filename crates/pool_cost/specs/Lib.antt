@@ -1,0 +1,3 @@
+-- The test of the cost, in the attempt at a route.
+-- the attempt
+pub mod Attempt

@@ -1,0 +1,3 @@
+-- What the function's proof leans on.
+-- the failures at the start
+pub mod StartLaws

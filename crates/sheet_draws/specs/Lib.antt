@@ -1,0 +1,2 @@
+-- how a lent slice holds draws
+pub mod Draws

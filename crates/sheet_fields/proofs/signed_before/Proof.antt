@@ -1,0 +1,47 @@
+-- `signed_before` meets its contract. Assumes nothing.
+use borrow.Author.Needs.{needs}
+use Rattle.sheet_fields.proofs.SignLaws.{got-same}
+use Rattle.sheet_text.proofs.ReadLaws.{readings}
+use Rattle.sheet_fields.proofs.signed_before.Statement.{statement}
+use Rattle.sheet_fields.proofs.signed_before.Tie as tie
+
+signed-requires : tie.Need-signed-requires
+signed-requires c κs = search needs
+
+enum-known-v : tie.Need-enum-known-v
+enum-known-v c = search needs
+
+enum-told : tie.Need-enum-told
+enum-told c = search needs
+
+returns : tie.Need-returns
+returns c = search readings
+
+byte-requires : tie.Need-byte-requires
+byte-requires c κs = search needs
+
+enum-known-j : tie.Need-enum-known-j
+enum-known-j c = search needs
+
+enum-told-2 : tie.Need-enum-told-2
+enum-told-2 c = search needs
+
+returns-2 : tie.Need-returns-2
+returns-2 c = search readings
+
+returns-3 : tie.Need-returns-3
+returns-3 c = search (readings, got-same)
+
+pub signed-before-spec : {M : Type 1} → statement M
+signed-before-spec =
+    tie.close
+    (tie.spec
+    signed-requires
+    enum-known-v
+    enum-told
+    returns
+    byte-requires
+    enum-known-j
+    enum-told-2
+    returns-2
+    returns-3)

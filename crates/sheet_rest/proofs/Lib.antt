@@ -1,0 +1,2 @@
+-- the break's line, where there is one
+pub mod RestLaws

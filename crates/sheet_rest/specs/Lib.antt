@@ -1,0 +1,2 @@
+-- what the answers of the code mean
+pub mod Told
