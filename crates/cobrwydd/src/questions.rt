@@ -8,9 +8,9 @@ ghost use Rattle.planner.specs.Calls.{answered, public-route-feasible, public-r
 ghost use Rattle.c_vehicle.specs.VehicleOf.{vehicle-of};
 ghost use Rattle.c_values.specs.Said.{values, says, question, checked-values, number-values, eval-values, window-values};
 use c_answers::put_checked;
-use c_answers::put_evaluated;
 use c_answers::put_number;
 use c_answers::put_window;
+use c_evaluations::put_evaluated;
 use c_fits::checked_misfit;
 use c_fits::evaluated_misfit;
 use c_fits::number_misfit;

@@ -1,2 +1,2 @@
--- rows, distances and times
+-- distances and times
 pub mod RoadLaws

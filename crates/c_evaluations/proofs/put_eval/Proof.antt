@@ -1,8 +1,8 @@
 -- `put_eval` meets its contract.
 use Rattle.c_values.proofs.AnswerLaws.{eval-none, eval-some}
 use borrow.Author.Needs.{needs}
-use Rattle.c_answers.proofs.put_eval.Statement.{statement}
-use Rattle.c_answers.proofs.put_eval.Tie as tie
+use Rattle.c_evaluations.proofs.put_eval.Statement.{statement}
+use Rattle.c_evaluations.proofs.put_eval.Tie as tie
 
 enum-told : tie.Need-enum-told
 enum-told c = search needs

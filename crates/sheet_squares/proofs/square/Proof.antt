@@ -5,11 +5,11 @@ use native.Mathlib.Omega.{arith}
 use lib.ListN.{length}
 use borrow.Author.Needs.{needs}
 use Rattle.sheet_reader.proofs.SectionLaws.{filled-at, filled-bad}
-use Rattle.sheet_roads.proofs.RoadLaws.{rows-behind, rows-start, row-room, rows-end, rows-fault, rows-turn}
+use Rattle.sheet_squares.proofs.SquareLaws.{rows-behind, rows-start, row-room, rows-end, rows-fault, rows-turn}
 use Rattle.sheet_format.specs.Form.{row-by-row}
 use Rattle.sheet_text.specs.Text.{map-reading, repeat, line}
-use Rattle.sheet_roads.proofs.square.Statement.{statement}
-use Rattle.sheet_roads.proofs.square.Tie as tie
+use Rattle.sheet_squares.proofs.square.Statement.{statement}
+use Rattle.sheet_squares.proofs.square.Tie as tie
 
 abbrev Inv-loop : tie.InvT-loop
 Inv-loop cells₀ s at n a₀ p₀ left₀ cells a p left = (map-reading row-by-row (repeat n (λ l. line n) s at) ≡ map-reading (rows-behind cells p) (repeat left (λ l. line n) s a)) × (p + left * n ≡ n * n) × (length cells ≡ length cells₀)

@@ -1,8 +1,8 @@
 -- `put_numbers` meets its contract.
 use Rattle.c_values.proofs.AnswerLaws.{three-cells}
 use borrow.Author.Needs.{needs}
-use Rattle.c_answers.proofs.put_numbers.Statement.{statement}
-use Rattle.c_answers.proofs.put_numbers.Tie as tie
+use Rattle.c_evaluations.proofs.put_numbers.Statement.{statement}
+use Rattle.c_evaluations.proofs.put_numbers.Tie as tie
 
 slice-write-found : tie.Need-slice-write-found
 slice-write-found c = search needs

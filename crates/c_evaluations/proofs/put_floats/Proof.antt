@@ -3,8 +3,8 @@ use native.Mathlib.Omega.{arith}
 use lib.ListN.{length-set}
 use Rattle.c_values.proofs.AnswerLaws.{five-cells}
 use borrow.Author.Needs.{needs}
-use Rattle.c_answers.proofs.put_floats.Statement.{statement}
-use Rattle.c_answers.proofs.put_floats.Tie as tie
+use Rattle.c_evaluations.proofs.put_floats.Statement.{statement}
+use Rattle.c_evaluations.proofs.put_floats.Tie as tie
 
 slice-write-out : tie.Need-slice-write-out
 slice-write-out c = search needs

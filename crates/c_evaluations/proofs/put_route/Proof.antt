@@ -1,8 +1,8 @@
 -- `put_route` meets its contract.
 use Rattle.c_values.proofs.AnswerLaws.{route-plain, route-rested}
 use borrow.Author.Needs.{needs}
-use Rattle.c_answers.proofs.put_route.Statement.{statement}
-use Rattle.c_answers.proofs.put_route.Tie as tie
+use Rattle.c_evaluations.proofs.put_route.Statement.{statement}
+use Rattle.c_evaluations.proofs.put_route.Tie as tie
 
 enum-told : tie.Need-enum-told
 enum-told c = search needs

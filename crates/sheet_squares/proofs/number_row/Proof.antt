@@ -8,8 +8,8 @@ use Rattle.sheet_reader.proofs.FillLaws.{ended, not-ended, row-end, row-fault, 
 use Rattle.sheet_reader.specs.Cells.{front}
 use Rattle.sheet_text.specs.Text.{map-reading, line}
 use Rattle.floats.specs.Whole.{nat}
-use Rattle.sheet_roads.proofs.number_row.Statement.{statement}
-use Rattle.sheet_roads.proofs.number_row.Tie as tie
+use Rattle.sheet_squares.proofs.number_row.Statement.{statement}
+use Rattle.sheet_squares.proofs.number_row.Tie as tie
 
 abbrev Inv-loop : tie.InvT-loop
 Inv-loop cells₀ base s at k a₀ p₀ left₀ cells a p left = (map-reading (front nat cells₀ base) (line k s at) ≡ map-reading (front nat cells p) (line left s a)) × (p + left ≡ base + k) × (length cells ≡ length cells₀)

@@ -3,8 +3,8 @@ use mathlib.Core.Path.{ap}
 use Rattle.planner_questions.specs.Told.{evaluated-told}
 use Rattle.c_values.proofs.AnswerLaws.{put-refused, put-same}
 use borrow.Author.Needs.{needs}
-use Rattle.c_answers.proofs.put_evaluated.Statement.{statement}
-use Rattle.c_answers.proofs.put_evaluated.Tie as tie
+use Rattle.c_evaluations.proofs.put_evaluated.Statement.{statement}
+use Rattle.c_evaluations.proofs.put_evaluated.Tie as tie
 
 enum-known-a : tie.Need-enum-known-a
 enum-known-a c = search needs

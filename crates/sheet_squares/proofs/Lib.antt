@@ -1,0 +1,2 @@
+-- rows one behind the other
+pub mod SquareLaws
