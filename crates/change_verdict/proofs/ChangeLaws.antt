@@ -12,8 +12,8 @@ use Rattle.planner.specs.declared.calls.Replied.{Replied}
 use Rattle.planner.specs.Calls.{Reply, public-minimise, public-eliminate}
 use Rattle.planner.specs.Told.{replied-told, reply-of, slices-of}
 use Rattle.stored_answers.specs.declared.Stored.{Stored}
-use Rattle.stored_answers.specs.Answers.{reply-stored, same-stored}
-use Rattle.change_verdict.specs.Changed.{change, same-plan, replayed, replayed-as}
+use Rattle.stored_answers.specs.Answers.{reply-stored, same-stored, same-plan}
+use Rattle.change_verdict.specs.Changed.{change, replayed, replayed-as}
 
 module _ (kind : ℕ) (p : Problem) (s : Slices) (given : Allowance) (w : Work) (y : Reply) where
   pub asks-minimise : kind ≡ 0 → y ≡ public-minimise p s given w → y ≡ change kind p s given w

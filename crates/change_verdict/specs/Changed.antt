@@ -11,7 +11,7 @@ use Rattle.entry.specs.Table.{Work}
 use Rattle.planner.specs.Told.{slices-of}
 use Rattle.planner.specs.Calls.{Reply, public-minimise, public-eliminate}
 use Rattle.stored_answers.specs.declared.Stored.{Stored}
-use Rattle.stored_answers.specs.Answers.{reply-stored, same-stored, same-cells}
+use Rattle.stored_answers.specs.Answers.{reply-stored, same-stored, same-plan}
 
 -- a call that changes the plan: any kind but 0 is eliminate
 unfoldable pub change : ℕ → Problem → Slices → Allowance → Work → Reply
@@ -21,10 +21,6 @@ change kind p s given w = cond (eqb kind 0) (public-minimise p s given w) (publi
 pub record Replayed : Type 0 where
   pub agrees : Bool
   pub slices : Slices
-
--- "both slices whole"
-abbrev pub same-plan : Slices → List ℕ → List ℕ → Bool
-same-plan s lengths stops = same-cells (s .lengths) lengths && same-cells (s .stops) stops
 
 -- whether a reply is the stored answer with the stored plan
 abbrev pub replayed : Reply → Stored → List ℕ → List ℕ → Replayed

@@ -4,14 +4,14 @@ ghost use lib.ListN.{length};
 ghost use Rattle.models.specs.Problem.{problem};
 ghost use Rattle.ejection_pool.specs.Running.{allowance};
 ghost use Rattle.planner.specs.Told.{reply-of, slices-of, work-of};
-ghost use Rattle.change_verdict.specs.Changed.{change, same-plan, replayed, replayed-as};
+ghost use Rattle.change_verdict.specs.Changed.{change, replayed, replayed-as};
 use eliminate_call::eliminate;
 use minimise_call::minimise;
 use models::vehicle::Vehicle;
 use planner::calls::Replied;
 use stored_answers::Stored;
 use stored_answers::of_replied;
-use stored_answers::same_cells;
+use stored_answers::same_plan;
 use stored_answers::same_stored;
 
 // What a call answers: minimise, or eliminate for any other kind.
@@ -76,16 +76,6 @@ fn changed(
         times,
         vehicle,
     )
-}
-
-// Whether both slices of a plan are the stored ones.
-fn same_plan(lengths: &[u16], stops: &[u16], lengths_after: &[u16], stops_after: &[u16]) -> bool
-    ensures { λ r. ⌜ r ≡ same-plan (slices-of (now (lengths .entry)) (now (stops .entry))) (now («lengths_after» .entry)) (now («stops_after» .entry)) ⌝ }
-{
-    if same_cells(lengths, lengths_after) {
-        return same_cells(stops, stops_after);
-    }
-    false
 }
 
 // Whether a call's answer and the plan after it are the stored ones.

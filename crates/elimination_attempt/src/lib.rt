@@ -1,64 +1,20 @@
-// The attempt to move the stops of a route into the others (local_search/route_elimination.rs, the body of `for r in order`): what is saved, and the plan put back
-// where nothing is gained.
+// The attempt to move the stops of a route into the others (local_search/route_elimination.rs, the body of `for r in order`), and the plan put back where
+// nothing is gained.
 ghost use mathlib.Core.Path.{_≡_};
 ghost use Prim.Native.Nat.{_+_, _≤_};
 ghost use lib.ListN.{length};
-ghost use Rattle.floats.specs.Binary64.{_⊕_};
-ghost use Rattle.models.specs.Vehicle.{fixed-cost-in-distance};
 ghost use Rattle.models.specs.Problem.{matrix, problem};
-ghost use Rattle.plan.specs.Plan.{split, route};
+ghost use Rattle.plan.specs.Plan.{split};
 ghost use Rattle.local_search.specs.Options.{then-some};
 ghost use Rattle.route_cost.specs.Route.{gain-floor};
-ghost use Rattle.reinsertion_worth.specs.Worth.{worth};
 ghost use Rattle.elimination_moves.specs.Eliminate.{without-route};
 ghost use Rattle.emptied_route.specs.Attempts.{Attempted, emptied, fewer, Left};
 use emptied_route::empty_route;
 use floats::is_finite;
 use models::vehicle::Vehicle;
-use plan::offset;
-use reinsertion_worth::worth;
 use route_removal::restore;
 use route_removal::save;
-
-// What is saved where route r goes: its worth and its fixed cost.
-fn saved_by(
-    lengths: &[u16],
-    stops: &[u16],
-    r: usize,
-    soft: bool,
-    needed: bool,
-    vehicle: Vehicle,
-    demand: &[i32],
-    n: usize,
-    distances: &[f64],
-    times: &[f64],
-    service: &[f64],
-    ready: &[f64],
-    due: &[f64],
-    penalty: &[f64],
-    flags: &[u8],
-) -> f64
-    requires { ⌜ Attempted (problem n (now demand) (now service) (now ready) (now due) (now penalty) (now flags) (now distances) (now times) vehicle) soft needed (now lengths) (now stops) r ⌝ }
-    ensures { λ x. ⌜ x ≡ worth (problem n (now (demand .entry)) (now (service .entry)) (now (ready .entry)) (now (due .entry)) (now (penalty .entry)) (now (flags .entry))
-        (now (distances .entry)) (now (times .entry)) vehicle) (route r (split (now (lengths .entry)) (now (stops .entry)))) ⊕ fixed-cost-in-distance vehicle ⌝ }
-{
-    let at = offset(lengths, r);
-    let end = at + lengths[r] as usize;
-    let own = worth(
-        &stops[at..end],
-        soft,
-        vehicle,
-        n,
-        distances,
-        times,
-        service,
-        ready,
-        due,
-        penalty,
-        flags,
-    );
-    own + vehicle.fixed_cost_in_distance()
-}
+use route_saving::saved_by;
 
 // Route r goes and its stops find other places, where that gains: else both slices are put back from the work cells.
 fn try_without(

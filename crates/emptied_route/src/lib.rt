@@ -14,10 +14,10 @@ ghost use Rattle.stop_moves.specs.Moves.{held-by, Waiting, Kept};
 ghost use Rattle.emptied_route.specs.Attempts.{Attempted, emptied, fewer, Accepted};
 use cells::copy_part;
 use models::vehicle::Vehicle;
+use moved_stops::move_all;
 use plan::offset;
 use route_removal::erase_route;
 use stop_moves::Sum;
-use stop_moves::move_all;
 
 // The stops of route r become the first of the cells.
 fn keep_route(left: &mut [u16], lengths: &[u16], stops: &[u16], r: usize)

@@ -1,48 +1,17 @@
--- What a call of a list is given and how it is recorded. Assumes nothing.
-use Prim.Native.Nat.{ℕ, _+_, _*_, _-_, _≤_}
+-- How a call of a list is recorded. Assumes nothing.
+use Prim.Native.Nat.{ℕ, _+_, _*_, _≤_}
 use mathlib.Core.Path.{_≡_, ap, _∙_}
 use mathlib.Core.List.{List, _++_}
-use native.Mathlib.Omega.{arith}
-use lib.ListN.{length, take, drop}
-use lib.Seq.{length-take-le}
-use lib.Ieee.{Float}
-use borrow.Author.Tests.{eq-eqb, ne-eqb}
+use lib.ListN.{length, drop}
 use Rattle.models.specs.Problem.{Problem}
-use Rattle.plan.specs.Plan.{Slices}
-use Rattle.ejection_pool.specs.Running.{allowance}
 use Rattle.planner.specs.declared.calls.Replied.{Replied}
-use Rattle.planner.specs.Calls.{Reply, public-minimise, public-eliminate}
-use Rattle.planner.specs.Told.{replied-told, reply-of, work-of}
+use Rattle.planner.specs.Calls.{Reply}
+use Rattle.planner.specs.Told.{replied-told, reply-of}
 use Rattle.planner.specs.Run.{call}
 use Rattle.call_words.specs.declared.Words.{Words}
 use Rattle.call_words.specs.Words.{Buffers, plan-slices, both-slices, words-at, call-of, answer-words, put}
-use Rattle.recorded_call.specs.Recording.{Lent, reply-at, Recorded}
-
--- ---- `run_call`: the parts that are lent have the numbers that the words say
-
-module _ (p : Problem) (s : Slices) (w : Words) (from : ℕ) (tapes work : List ℕ) (cells : List Float) (h : Lent w from (length tapes) (length work) (length cells)) (r : Reply) where
-  small-is : length (take (w .small) work) ≡ w .small
-  small-is = length-take-le (w .small) work (h .small)
-
-  wide-is : length (take (w .wide) cells) ≡ w .wide
-  wide-is = length-take-le (w .wide) cells (h .wide)
-
-  pub minimise-called : w .kind ≡ 0
-      → r ≡ public-minimise p s (allowance (w .limit) (w .clock) (take (from + w .tape - from) (drop from tapes)))
-      (work-of (length (take (w .small) work)) (length (take (w .wide) cells)))
-      → r ≡ call p s (call-of w (drop from tapes))
-  unfolding call
-  minimise-called k e =
-      let t : from + w .tape - from ≡ w .tape = omega arith in
-      e ∙ rw (eq-eqb (w .kind) 0 k, small-is, wide-is, t)
-
-  pub eliminate-called : (w .kind ≡ 0 → ⊥)
-      → r ≡ public-eliminate p s (work-of (length (take (w .small) work)) (length (take (w .wide) cells)))
-      → r ≡ call p s (call-of w (drop from tapes))
-  unfolding call
-  eliminate-called k e = e ∙ rw (ne-eqb (w .kind) 0 k, small-is, wide-is)
-
--- ---- `run_next`
+use Rattle.called.specs.Lent.{Lent}
+use Rattle.recorded_call.specs.Recording.{reply-at, Recorded}
 
 pub lent-same : (v : Words) {w : Words} {from tapes work cells : ℕ} → w ≡ v → Lent v from tapes work cells → Lent w from tapes work cells
 lent-same v e h = rw e h

@@ -6,14 +6,8 @@ use lib.ListN.{length, drop}
 use Rattle.models.specs.Problem.{Problem}
 use Rattle.planner.specs.Calls.{Reply}
 use Rattle.planner.specs.Run.{call}
-use Rattle.call_words.specs.declared.Words.{Words}
 use Rattle.call_words.specs.Words.{Buffers, plan-slices, both-slices, words-at, call-of, answer-words, put}
-
--- the tape words and work cells that a call is lent are there
-pub record Lent (w : Words) (from tapes work cells : ℕ) : Type 0 where
-  pub tape : from + w .tape ≤ tapes
-  pub small : w .small ≤ work
-  pub wide : w .wide ≤ cells
+use Rattle.called.specs.Lent.{Lent}
 
 -- call i can be run, its tape beginning at `from`, and recorded
 pub record Next (i from : ℕ) (calls tapes : List ℕ) (b : Buffers) : Type 0 where

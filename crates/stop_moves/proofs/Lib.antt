@@ -1,3 +1,3 @@
--- Laws that this crate's proofs cite.
--- the stops moved one after the other
+-- What the function's proof leans on.
+-- one stop moved
 pub mod MoveLaws

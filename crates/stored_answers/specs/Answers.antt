@@ -1,4 +1,4 @@
--- Answers as they are stored, and whether two are the same. Assumes nothing.
+-- Answers and plans as they are stored, and whether two are the same. Assumes nothing.
 use Prim.Native.Nat.{ℕ}
 use mathlib.Core.List.{List, [], _∷_}
 use mathlib.Core.Bool.{Bool, true, false, cond, _&&_}
@@ -11,6 +11,7 @@ use Rattle.break_clock.specs.declared.route_eval.Eval.the-variants.{Infeasible,
 use Rattle.break_clock.specs.declared.route_eval.RouteEval.{RouteEval}
 use Rattle.labels.specs.declared.Taken.{Taken}
 use Rattle.labels.specs.declared.Taken.the-variants.{No, At}
+use Rattle.plan.specs.Plan.{Slices}
 use Rattle.local_search.specs.declared.rounds.Reduction.{Reduction}
 use Rattle.planner.specs.Calls.{Answer, refused, answered}
 use Rattle.stored_answers.specs.declared.Stored.{Stored}
@@ -78,3 +79,7 @@ same-cells [] [] = true
 same-cells [] (y ∷ ys) = false
 same-cells (x ∷ xs) [] = false
 same-cells (x ∷ xs) (y ∷ ys) = eqb x y && same-cells xs ys
+
+-- "both slices whole"
+abbrev pub same-plan : Slices → List ℕ → List ℕ → Bool
+same-plan s lengths stops = same-cells (s .lengths) lengths && same-cells (s .stops) stops

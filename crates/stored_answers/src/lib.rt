@@ -1,8 +1,8 @@
-// Answers as they are stored, and whether two are the same.
+// Answers and plans as they are stored, and whether two are the same.
 ghost use mathlib.Core.Path.{_≡_};
-ghost use Rattle.planner.specs.Told.{replied-told};
+ghost use Rattle.planner.specs.Told.{replied-told, slices-of};
 ghost use Rattle.planner_questions.specs.Told.{checked-told, evaluated-told, number-told};
-ghost use Rattle.stored_answers.specs.Answers.{stored, refusal-stored, checked-stored, number-stored, route-stored, eval-stored, evaluated-stored, window-stored, reply-stored, same-stored, same-rest, same-cells};
+ghost use Rattle.stored_answers.specs.Answers.{stored, refusal-stored, checked-stored, number-stored, route-stored, eval-stored, evaluated-stored, window-stored, reply-stored, same-stored, same-rest, same-cells, same-plan};
 use break_clock::route_eval::Eval;
 use break_clock::route_eval::RouteEval;
 use labels::Taken;
@@ -188,4 +188,14 @@ pub fn same_cells(xs: &[u16], ys: &[u16]) -> bool
         i += 1;
     }
     true
+}
+
+// Whether both slices of a plan are the stored ones.
+pub fn same_plan(lengths: &[u16], stops: &[u16], lengths_after: &[u16], stops_after: &[u16]) -> bool
+    ensures { λ r. ⌜ r ≡ same-plan (slices-of (now (lengths .entry)) (now (stops .entry))) (now («lengths_after» .entry)) (now («stops_after» .entry)) ⌝ }
+{
+    if same_cells(lengths, lengths_after) {
+        return same_cells(stops, stops_after);
+    }
+    false
 }

@@ -2,9 +2,9 @@
 use borrow.Author.Needs.{needs}
 use native.Mathlib.Omega.{arith}
 use Rattle.models.specs.Problem.{problem}
-use Rattle.stop_moves.proofs.MoveLaws.{Moving, moving-start, moving-stuck, moving-more, moving-done, moving-kept}
-use Rattle.stop_moves.proofs.move_all.Statement.{statement}
-use Rattle.stop_moves.proofs.move_all.Tie as tie
+use Rattle.moved_stops.proofs.MovingLaws.{Moving, moving-start, moving-stuck, moving-more, moving-done, moving-kept}
+use Rattle.moved_stops.proofs.move_all.Statement.{statement}
+use Rattle.moved_stops.proofs.move_all.Tie as tie
 
 abbrev Inv-loop : tie.InvT-loop
 Inv-loop lengths₀ stops₀ left₀ count saved soft needed vehicle demand n distances times service ready due penalty flags added₀ m₀ lengths stops left added m =

@@ -3,9 +3,9 @@ use mathlib.Core.Path.{sym}
 use native.Mathlib.Omega.{arith}
 use borrow.Author.Needs.{needs}
 use lib.Seq.{length-take-le}
-use Rattle.recorded_call.proofs.RecordLaws.{minimise-called, eliminate-called}
-use Rattle.recorded_call.proofs.run_call.Statement.{statement}
-use Rattle.recorded_call.proofs.run_call.Tie as tie
+use Rattle.called.proofs.CalledLaws.{minimise-called, eliminate-called}
+use Rattle.called.proofs.run_call.Statement.{statement}
+use Rattle.called.proofs.run_call.Tie as tie
 
 add-end : tie.Need-add-end
 add-end c = search needs

@@ -2,9 +2,9 @@
 use borrow.Author.Needs.{needs}
 use Rattle.route_cost.proofs.VisitLaws.{part-end, part-end-fits, part-length-fits, part-stops}
 use Rattle.emptied_route.proofs.EmptiedLaws.{attempt-visit}
-use Rattle.elimination_attempt.proofs.AttemptLaws.{saved-is}
-use Rattle.elimination_attempt.proofs.saved_by.Statement.{statement}
-use Rattle.elimination_attempt.proofs.saved_by.Tie as tie
+use Rattle.route_saving.proofs.SavedLaws.{saved-is}
+use Rattle.route_saving.proofs.saved_by.Statement.{statement}
+use Rattle.route_saving.proofs.saved_by.Tie as tie
 
 offset-requires : tie.Need-offset-requires
 offset-requires c κs = search needs

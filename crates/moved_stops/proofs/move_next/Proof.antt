@@ -1,9 +1,9 @@
 -- `moves::move_next` meets its contract.
 use borrow.Author.Needs.{needs}
 use Rattle.route_load.proofs.FeasibleLaws.{demands-own, stops-own}
-use Rattle.stop_moves.proofs.MoveLaws.{next-asked, next-room, next-free, next-moved}
-use Rattle.stop_moves.proofs.move_next.Statement.{statement}
-use Rattle.stop_moves.proofs.move_next.Tie as tie
+use Rattle.moved_stops.proofs.MovingLaws.{next-asked, next-room, next-free, next-moved}
+use Rattle.moved_stops.proofs.move_next.Statement.{statement}
+use Rattle.moved_stops.proofs.move_next.Tie as tie
 
 take-largest-requires : tie.Need-take-largest-requires
 take-largest-requires c κs =

@@ -1,0 +1,3 @@
+-- What the function's proof leans on.
+-- the parts that a call is lent
+pub mod CalledLaws

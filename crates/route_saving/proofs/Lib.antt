@@ -1,0 +1,3 @@
+-- What the function's proof leans on.
+-- what is saved
+pub mod SavedLaws
