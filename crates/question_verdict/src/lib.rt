@@ -1,118 +1,14 @@
-// The stored questions: what each kind asks, and whether the answer is the stored one.
+// The stored questions: what each kind asks, and whether the answer is the stored one. Those about a route are in route_asked.
 ghost use mathlib.Core.Path.{_≡_};
 ghost use Rattle.models.specs.Problem.{problem};
 ghost use Rattle.stored_answers.specs.Answers.{same-stored};
-ghost use Rattle.question_verdict.specs.Asked.{route-question, question};
+ghost use Rattle.question_verdict.specs.Asked.{question};
 use models::vehicle::Vehicle;
-use models::vehicle::VehicleBreak;
+use route_asked::ask_of_route;
 use stored_answers::Stored;
-use stored_answers::of_checked;
-use stored_answers::of_evaluated;
 use stored_answers::of_number;
 use stored_answers::of_window;
 use stored_answers::same_stored;
-
-// The answer to a question about a route. Three floats are the break that `schedule` is given.
-fn ask_of_route(
-    kind: u64,
-    route: &[u16],
-    x: f64,
-    y: f64,
-    z: f64,
-    n: usize,
-    demand: &[i32],
-    service: &[f64],
-    ready: &[f64],
-    due: &[f64],
-    penalty: &[f64],
-    flags: &[u8],
-    distances: &[f64],
-    times: &[f64],
-    vehicle: Vehicle,
-) -> Stored
-    ensures { λ r. ⌜ r ≡ route-question kind (problem n (now (demand .entry)) (now (service .entry)) (now (ready .entry)) (now (due .entry)) (now (penalty .entry)) (now (flags .entry))
-        (now (distances .entry)) (now (times .entry)) vehicle) (now (route .entry)) x y z ⌝ }
-{
-    if kind == 2 {
-        return of_checked(planner_questions::route_feasible(
-            route,
-            n,
-            demand,
-            service,
-            ready,
-            due,
-            penalty,
-            flags,
-            distances,
-            times,
-            vehicle,
-        ));
-    }
-    if kind == 3 {
-        return of_evaluated(worth_questions::route_eval(
-            route,
-            n,
-            demand,
-            service,
-            ready,
-            due,
-            penalty,
-            flags,
-            distances,
-            times,
-            vehicle,
-        ));
-    }
-    if kind == 4 {
-        return of_number(worth_questions::effective_cost(
-            route,
-            n,
-            demand,
-            service,
-            ready,
-            due,
-            penalty,
-            flags,
-            distances,
-            times,
-            vehicle,
-        ));
-    }
-    if kind == 5 {
-        let rest = VehicleBreak {
-            earliest: x,
-            latest: y,
-            duration: z,
-        };
-        return of_evaluated(planner_questions::schedule(
-            route,
-            rest,
-            n,
-            demand,
-            service,
-            ready,
-            due,
-            penalty,
-            flags,
-            distances,
-            times,
-            vehicle,
-        ));
-    }
-    of_number(planner_questions::route_distance(
-        route,
-        n,
-        demand,
-        service,
-        ready,
-        due,
-        penalty,
-        flags,
-        distances,
-        times,
-        vehicle,
-    ))
-}
 
 // The answer to a question. Two floats are the window that `time_window_new` is given.
 fn ask(

@@ -2,9 +2,9 @@
 use borrow.Author.Needs.{needs}
 use Rattle.laws.specs.Picks.{picks}
 use Rattle.stored_answers.proofs.AnswerLaws.{asks}
-use Rattle.question_verdict.specs.Asked.{route-question}
-use Rattle.question_verdict.proofs.ask_of_route.Statement.{statement}
-use Rattle.question_verdict.proofs.ask_of_route.Tie as tie
+use Rattle.route_asked.specs.RouteAsked.{route-question}
+use Rattle.route_asked.proofs.ask_of_route.Statement.{statement}
+use Rattle.route_asked.proofs.ask_of_route.Tie as tie
 
 route-feasible-requires : tie.Need-route-feasible-requires
 route-feasible-requires c κs = search needs
