@@ -30,7 +30,7 @@ pub fn travel_time(distances: &[f64], times: &[f64], n: usize, from: usize, to: 
     }
 }
 
-// The larger of a number and the next: `floats::max` where the first is no NaN, by one comparison.
+// The larger of a number and the next: `float_functions::max` where the first is no NaN, by one comparison.
 fn larger(most: f64, x: f64) -> f64
     requires { ⌜ isNan most ≡ false ⌝ }
     ensures { λ r. ⌜ r ≡ max most x ⌝ }

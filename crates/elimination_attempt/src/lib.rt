@@ -10,7 +10,7 @@ ghost use Rattle.route_cost.specs.Route.{gain-floor};
 ghost use Rattle.elimination_moves.specs.Eliminate.{without-route};
 ghost use Rattle.emptied_route.specs.Attempts.{Attempted, emptied, fewer, Left};
 use emptied_route::empty_route;
-use floats::is_finite;
+use float_functions::is_finite;
 use models::vehicle::Vehicle;
 use route_removal::restore;
 use route_removal::save;

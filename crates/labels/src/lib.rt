@@ -1,7 +1,7 @@
 // A label: the vehicle at a stop with its service done, or none where the stop cannot be served (evaluation/schedule.rs).
 ghost use mathlib.Core.Path.{_≡_};
 ghost use Rattle.labels.specs.Labels.{serve-at, serve, served-from, sooner, earlier, lives};
-use floats::max;
+use float_functions::max;
 use models::customer::Customer;
 use models::customer::Penalty;
 use models::customer::Window;

@@ -8,7 +8,7 @@ ghost use Rattle.models.specs.Customer.{customers};
 ghost use Rattle.models.specs.Problem.{matrix, Square, Fit};
 ghost use Rattle.lateness_bound.specs.Bound.{with-window, with-penalty, latest-window, dearest-penalty, slowest, lateness-bound};
 use distance::largest;
-use floats::max;
+use float_functions::max;
 use models::customer::Penalty;
 use models::customer::Window;
 use place_record::penalty_at;

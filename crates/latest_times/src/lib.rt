@@ -7,8 +7,8 @@ ghost use Rattle.models.specs.Problem.{matrix, Fit};
 ghost use Rattle.quick_test.specs.Quick.{earliest-start, latest-start, latest-arrival};
 ghost use Rattle.quick_test.specs.Parts.{latest-in};
 use distance::travel_time;
-use floats::infinity;
-use floats::min;
+use float_functions::infinity;
+use float_functions::min;
 use models::customer::Window;
 use place_record::customer_at;
 

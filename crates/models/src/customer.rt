@@ -1,8 +1,8 @@
 // Places: time windows, and what the evaluation of a route reads of a place (models/customer.rs).
 ghost use mathlib.Core.Path.{_≡_};
 ghost use Rattle.models.specs.TimeWindow.{time-window-new, contains, waiting-time, is-violated, lateness};
-use floats::is_finite;
-use floats::max;
+use float_functions::is_finite;
+use float_functions::max;
 
 // The time in which service at a place may start: an early vehicle waits until `ready`, and one that comes after `due` is late.
 pub struct TimeWindow {

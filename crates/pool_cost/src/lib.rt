@@ -9,7 +9,7 @@ ghost use Rattle.models.specs.Problem.{of-distances, Stops};
 ghost use Rattle.laws.specs.All.{All};
 ghost use Rattle.plan.specs.Plan.{Lent, split};
 ghost use Rattle.route_cost.specs.Route.{cost};
-use floats::abs;
+use float_functions::abs;
 use models::vehicle::Vehicle;
 use route_cost::plan_cost;
 

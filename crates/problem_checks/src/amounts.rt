@@ -2,8 +2,8 @@
 ghost use mathlib.Core.Path.{_≡_};
 ghost use Rattle.models.specs.declared.vehicle.Rest.the-variants.{Break};
 ghost use Rattle.models.specs.Valid.{is-amount, amounts-pass, limit-passes, rest-passes, cost-passes, vehicle-passes};
-use floats::is_finite;
-use floats::is_sign_negative;
+use float_functions::is_finite;
+use float_functions::is_sign_negative;
 use models::vehicle::Limit;
 use models::vehicle::Rest;
 use models::vehicle::Vehicle;

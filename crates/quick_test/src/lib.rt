@@ -9,8 +9,8 @@ ghost use Rattle.quick_test.specs.Quick.{served-at, in-time, left-before
 ghost use Rattle.quick_test.specs.Parts.{leave, next-in-time};
 use distance::travel_time;
 use evaluation::check::Left;
-use floats::abs;
-use floats::max;
+use float_functions::abs;
+use float_functions::max;
 use insertion_cost::prev_stop;
 use models::customer::Customer;
 use models::customer::Window;

@@ -9,7 +9,7 @@ use break_schedule::schedule;
 use evaluation::eval::Walk;
 use evaluation::eval::Walked;
 use evaluation::eval::limited;
-use floats::infinity;
+use float_functions::infinity;
 use models::limits::RouteLimits;
 use models::vehicle::Rest;
 use models::vehicle::VehicleBreak;

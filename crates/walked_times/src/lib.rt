@@ -8,7 +8,7 @@ ghost use Rattle.models.specs.Problem.{matrix, Fit, Stops};
 ghost use Rattle.quick_test.specs.Quick.{departures, latest-arrivals};
 ghost use Rattle.quick_test.specs.Parts.{told};
 use evaluation::check::Left;
-use floats::infinity;
+use float_functions::infinity;
 use latest_times::latest_arrival;
 use quick_test::leave;
 

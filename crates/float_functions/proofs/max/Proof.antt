@@ -1,10 +1,10 @@
--- `floats::max` meets its contract: its branches are those of the definition, and `b != b` tells a NaN.
+-- `float_functions::max` meets its contract: its branches are those of the definition, and `b != b` tells a NaN.
 -- Assumes nothing.
 use Rattle.laws.specs.Picks.{picks}
 use Rattle.floats.specs.Binary64.{max}
 use Rattle.floats.specs.Functions.{nan-tested}
-use Rattle.floats.proofs.max.Statement.{statement}
-use Rattle.floats.proofs.max.Tie as tie
+use Rattle.float_functions.proofs.max.Statement.{statement}
+use Rattle.float_functions.proofs.max.Tie as tie
 
 returns : tie.Need-returns
 unfolding max

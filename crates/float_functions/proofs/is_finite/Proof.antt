@@ -1,9 +1,9 @@
--- `floats::is_finite` meets its contract: below +∞ in size are the numbers, and only those.
+-- `float_functions::is_finite` meets its contract: below +∞ in size are the numbers, and only those.
 -- Assumes nothing.
 use borrow.Author.Needs.{needs}
-use Rattle.floats.proofs.Branches.{finite-tested}
-use Rattle.floats.proofs.is_finite.Statement.{statement}
-use Rattle.floats.proofs.is_finite.Tie as tie
+use Rattle.float_functions.proofs.Branches.{finite-tested}
+use Rattle.float_functions.proofs.is_finite.Statement.{statement}
+use Rattle.float_functions.proofs.is_finite.Tie as tie
 
 abs-requires : tie.Need-abs-requires
 abs-requires c κs = search needs

@@ -1,10 +1,10 @@
--- `floats::min` meets its contract: its branches are those of the definition, and `b != b` tells a NaN.
+-- `float_functions::min` meets its contract: its branches are those of the definition, and `b != b` tells a NaN.
 -- Assumes nothing.
 use Rattle.laws.specs.Picks.{picks}
 use Rattle.floats.specs.Binary64.{min}
 use Rattle.floats.specs.Functions.{nan-tested}
-use Rattle.floats.proofs.min.Statement.{statement}
-use Rattle.floats.proofs.min.Tie as tie
+use Rattle.float_functions.proofs.min.Statement.{statement}
+use Rattle.float_functions.proofs.min.Tie as tie
 
 returns : tie.Need-returns
 unfolding min

@@ -1,8 +1,8 @@
--- `floats::total_key` meets its contract: a NaN is told first, then the sign bit. Assumes nothing.
+-- `float_functions::total_key` meets its contract: a NaN is told first, then the sign bit. Assumes nothing.
 use borrow.Author.Needs.{needs}
-use Rattle.floats.proofs.Branches.{key-laws}
-use Rattle.floats.proofs.total_key.Statement.{statement}
-use Rattle.floats.proofs.total_key.Tie as tie
+use Rattle.float_functions.proofs.Branches.{key-laws}
+use Rattle.float_functions.proofs.total_key.Statement.{statement}
+use Rattle.float_functions.proofs.total_key.Tie as tie
 
 returns : tie.Need-returns
 returns c = search key-laws

@@ -1,9 +1,9 @@
--- `floats::infinity` meets its contract: 1.0 / 0.0 computes to +∞.
+-- `float_functions::infinity` meets its contract: 1.0 / 0.0 computes to +∞.
 -- Assumes nothing.
 use mathlib.Core.Path.{refl}
 use lib.Ieee.{div, ofBits}
-use Rattle.floats.proofs.infinity.Statement.{statement}
-use Rattle.floats.proofs.infinity.Tie as tie
+use Rattle.float_functions.proofs.infinity.Statement.{statement}
+use Rattle.float_functions.proofs.infinity.Tie as tie
 
 returns : tie.Need-returns
 unfolding div ofBits

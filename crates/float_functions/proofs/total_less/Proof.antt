@@ -1,8 +1,8 @@
--- `floats::total_less` meets its contract. Assumes nothing.
+-- `float_functions::total_less` meets its contract. Assumes nothing.
 use borrow.Author.Needs.{needs}
-use Rattle.floats.proofs.Branches.{keys-tested}
-use Rattle.floats.proofs.total_less.Statement.{statement}
-use Rattle.floats.proofs.total_less.Tie as tie
+use Rattle.float_functions.proofs.Branches.{keys-tested}
+use Rattle.float_functions.proofs.total_less.Statement.{statement}
+use Rattle.float_functions.proofs.total_less.Tie as tie
 
 total-key-requires : tie.Need-total-key-requires
 total-key-requires c κs = search needs
