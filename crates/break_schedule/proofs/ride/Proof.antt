@@ -11,10 +11,10 @@ push-requires : tie.Need-push-requires
 push-requires c κs = search needs
 
 enum-known-pushed : tie.Need-enum-known-pushed
-enum-known-pushed c = search needs
+enum-known-pushed c = c .match .keys1
 
 enum-told : tie.Need-enum-told
-enum-told c = search needs
+enum-told c = c .match .keys2
 
 returns : tie.Need-returns
 returns c = search ride-laws

@@ -32,10 +32,10 @@ ride-requires : tie.Need-ride-requires Inv-loop μ-loop
 ride-requires c κs = search (stop-laws, along-index)
 
 enum-known-next : tie.Need-enum-known-next Inv-loop μ-loop
-enum-known-next c = search needs
+enum-known-next c = c .match .keys1
 
 enum-told : tie.Need-enum-told Inv-loop μ-loop
-enum-told c = search needs
+enum-told c = c .match .keys2
 
 returns : tie.Need-returns Inv-loop μ-loop
 returns c = search along-laws

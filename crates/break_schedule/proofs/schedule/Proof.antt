@@ -11,10 +11,10 @@ ride-all-requires : tie.Need-ride-all-requires
 ride-all-requires c κs = search (needs, ride-ends)
 
 enum-known-ridden : tie.Need-enum-known-ridden
-enum-known-ridden c = search needs
+enum-known-ridden c = c .match .keys1
 
 enum-told : tie.Need-enum-told
-enum-told c = search needs
+enum-told c = c .match .keys2
 
 returns : tie.Need-returns
 returns c = search schedule-laws

@@ -10,10 +10,10 @@ use Rattle.c_answers.proofs.put_checked.Statement.{statement}
 use Rattle.c_answers.proofs.put_checked.Tie as tie
 
 enum-known-a : tie.Need-enum-known-a
-enum-known-a c = search needs
+enum-known-a c = c .match .keys1
 
 enum-known-a-2 : tie.Need-enum-known-a-2
-enum-known-a-2 c = search needs
+enum-known-a-2 c = c .match .keys2
 
 slice-write-found : tie.Need-slice-write-found
 slice-write-found c = search needs

@@ -9,10 +9,10 @@ use Rattle.c_answers.proofs.put_reply.Statement.{statement}
 use Rattle.c_answers.proofs.put_reply.Tie as tie
 
 enum-known-a : tie.Need-enum-known-a
-enum-known-a c = search needs
+enum-known-a c = c .match .keys1
 
 enum-known-a-2 : tie.Need-enum-known-a-2
-enum-known-a-2 c = search needs
+enum-known-a-2 c = c .match .keys2
 
 put-numbers-requires : tie.Need-put-numbers-requires
 put-numbers-requires c κs = search needs

@@ -5,7 +5,7 @@ use Rattle.c_answers.proofs.put_window.Statement.{statement}
 use Rattle.c_answers.proofs.put_window.Tie as tie
 
 enum-told : tie.Need-enum-told
-enum-told c = search needs
+enum-told c = c .match .keys1
 
 slice-write-out : tie.Need-slice-write-out
 slice-write-out c = search needs
@@ -17,7 +17,7 @@ slice-write-found : tie.Need-slice-write-found
 slice-write-found c = search needs
 
 enum-known-w : tie.Need-enum-known-w
-enum-known-w c = search needs
+enum-known-w c = c .match .keys2
 
 slice-write-out-3 : tie.Need-slice-write-out-3
 slice-write-out-3 c = search needs

@@ -5,10 +5,10 @@ use Rattle.c_reports.proofs.put_printed.Statement.{statement}
 use Rattle.c_reports.proofs.put_printed.Tie as tie
 
 enum-told : tie.Need-enum-told
-enum-told c = search needs
+enum-told c = c .match .keys1
 
 enum-known-p : tie.Need-enum-known-p
-enum-known-p c = search needs
+enum-known-p c = c .match .keys2
 
 slice-write-written : tie.Need-slice-write-written
 slice-write-written c = search needs

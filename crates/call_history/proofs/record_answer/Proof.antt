@@ -5,7 +5,7 @@ use Rattle.call_history.proofs.record_answer.Statement.{statement}
 use Rattle.call_history.proofs.record_answer.Tie as tie
 
 enum-known-a : tie.Need-enum-known-a
-enum-known-a c = search needs
+enum-known-a c = c .match .keys1
 
 mul-put-words : tie.Need-mul-put-words
 mul-put-words c = search needs
@@ -17,7 +17,7 @@ put-words-requires : tie.Need-put-words-requires
 put-words-requires c κs = search needs
 
 enum-known-a-2 : tie.Need-enum-known-a-2
-enum-known-a-2 c = search needs
+enum-known-a-2 c = c .match .keys2
 
 mul-put-words-2 : tie.Need-mul-put-words-2
 mul-put-words-2 c = search needs

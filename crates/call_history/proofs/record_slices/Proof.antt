@@ -1,4 +1,5 @@
 -- `record_slices` meets its contract.
+use mathlib.Core.Path.{_∙_}
 use native.Mathlib.Omega.{arith}
 use borrow.Author.Needs.{needs}
 use Rattle.call_history.proofs.PutLaws.{put-both}
@@ -21,7 +22,7 @@ copy-part-requires-2 : tie.Need-copy-part-requires-2
 copy-part-requires-2 c κs = search needs
 
 same-length : tie.Need-same-length
-same-length c = search needs
+same-length c = c .before .before .copy-part2 .kept .0 ∙ c .before .before .before .before .before .before .copy-part .kept .0
 
 returns : tie.Need-returns
 returns c = put-both (c .before .before .before .before .before .before .before .before .before .before .before .args .history .now) (c .before .before .before .before .before .before .before .before .before .before .before .args .lengths .now) (c .before .before .before .before .before .before .before .before .before .before .before .args .stops .now) _ (omega (arith, c .before .before .before .before .before .before .before .before .before .before .before .pre)) (c .before .before .before .before .before .before .copy-part .ensures) (c .before .before .copy-part2 .ensures)

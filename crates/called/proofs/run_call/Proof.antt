@@ -1,5 +1,5 @@
 -- `run_call` meets its contract.
-use mathlib.Core.Path.{sym}
+use mathlib.Core.Path.{refl, sym}
 use native.Mathlib.Omega.{arith}
 use borrow.Author.Needs.{needs}
 use lib.Seq.{length-take-le}
@@ -38,10 +38,10 @@ minimise-requires : tie.Need-minimise-requires
 minimise-requires c κs = search needs
 
 same-length : tie.Need-same-length
-same-length c = search needs
+same-length c = c .before .before .before .before .before .before .before .before .minimise .kept .0
 
 same-length-2 : tie.Need-same-length-2
-same-length-2 c = search needs
+same-length-2 c = c .before .before .before .before .before .before .before .before .minimise .kept .1 .0
 
 same-length-3 : tie.Need-same-length-3
 same-length-3 c = search needs
@@ -68,16 +68,16 @@ eliminate-requires : tie.Need-eliminate-requires
 eliminate-requires c κs = search needs
 
 same-length-5 : tie.Need-same-length-5
-same-length-5 c = search needs
+same-length-5 c = c .before .before .before .before .before .before .eliminate .kept .0
 
 same-length-6 : tie.Need-same-length-6
-same-length-6 c = search needs
+same-length-6 c = c .before .before .before .before .before .before .eliminate .kept .1 .0
 
 same-length-7 : tie.Need-same-length-7
 same-length-7 c = search needs
 
 same-length-8 : tie.Need-same-length-8
-same-length-8 c = search needs
+same-length-8 c = refl
 
 returns-2 : tie.Need-returns-2
 returns-2 c = eliminate-called _ _ _ _ _ _ _ (c .before .before .before .before .before .before .before .before .before .before .before .before .before .before .before .before .before .before .before .before .before .before .before .before .before .pre) _ (c .before .before .before .before .before .before .before .before .before .before .before .if1 .left) (c .before .before .before .before .before .before .eliminate .ensures .0)

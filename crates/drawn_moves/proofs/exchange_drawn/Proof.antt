@@ -58,7 +58,7 @@ try-exchange-requires c κs =
     (q .0, (w .apart, drawn-stop _ _ _ (m .lent) (w .first-in) _ _ _ (first-full _ _ _ _ w (m .lent)) (c .before .before .before .draw .ensures), drawn-stop _ _ _ (m .lent) (w .second-in) _ _ _ (second-full _ _ _ _ w (m .lent)) (c .before .draw2 .ensures), m .lent, m .planned, q .1 .2))
 
 same-length : tie.Need-same-length
-same-length c = search needs
+same-length c = c .before .before .try-exchange .kept .0
 
 returns : tie.Need-returns
 returns c =

@@ -68,13 +68,13 @@ try-tails-requires c κs =
     (q .0, (w .apart, drawn-position _ _ _ (m .lent) (w .first-in) _ _ _ (c .before .before .before .before .before .draw .ensures), drawn-position _ _ _ (m .lent) (w .second-in) _ _ _ (c .before .before .before .draw2 .ensures), q .1 .1, m .lent, m .planned, q .1 .3))
 
 same-length : tie.Need-same-length
-same-length c = search needs
+same-length c = c .before .before .before .before .before .before .try-tails .kept .0
 
 same-length-2 : tie.Need-same-length-2
-same-length-2 c = search needs
+same-length-2 c = c .before .before .before .before .before .before .try-tails .kept .1 .0
 
 same-length-3 : tie.Need-same-length-3
-same-length-3 c = search needs
+same-length-3 c = c .before .before .before .before .before .before .try-tails .kept .1 .1 .0
 
 returns : tie.Need-returns
 returns c =

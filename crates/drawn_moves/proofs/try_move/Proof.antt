@@ -1,4 +1,5 @@
 -- `moves::try_move` meets its contract.
+use mathlib.Core.Path.{refl}
 use Rattle.drawn_moves.proofs.DrawnLaws.{exchange-tried, tails-tried}
 use borrow.Author.Needs.{needs}
 use Rattle.drawn_moves.proofs.try_move.Statement.{statement}
@@ -14,10 +15,10 @@ exchange-drawn-requires : tie.Need-exchange-drawn-requires
 exchange-drawn-requires c κs = search needs
 
 same-length : tie.Need-same-length
-same-length c = search needs
+same-length c = refl
 
 same-length-2 : tie.Need-same-length-2
-same-length-2 c = search needs
+same-length-2 c = c .before .before .exchange-drawn .kept .0
 
 returns : tie.Need-returns
 returns c =
@@ -27,13 +28,13 @@ tails-drawn-requires : tie.Need-tails-drawn-requires
 tails-drawn-requires c κs = search needs
 
 same-length-3 : tie.Need-same-length-3
-same-length-3 c = search needs
+same-length-3 c = c .before .before .before .before .before .before .tails-drawn .kept .0
 
 same-length-4 : tie.Need-same-length-4
-same-length-4 c = search needs
+same-length-4 c = c .before .before .before .before .before .before .tails-drawn .kept .1 .0
 
 same-length-5 : tie.Need-same-length-5
-same-length-5 c = search needs
+same-length-5 c = c .before .before .before .before .before .before .tails-drawn .kept .1 .1 .0
 
 returns-2 : tie.Need-returns-2
 returns-2 c =

@@ -1,4 +1,5 @@
 -- `keep` meets its contract.
+use mathlib.Core.Path.{_∙_}
 use Rattle.ejection.proofs.EjectLaws.{kept-copied, kept-number}
 use borrow.Author.Needs.{needs}
 use Rattle.ejection.proofs.keep.Statement.{statement}
@@ -38,7 +39,7 @@ add-result-2 : tie.Need-add-result-2
 add-result-2 c = search needs
 
 same-length : tie.Need-same-length
-same-length c = search needs
+same-length c = c .before .before .copy-part3 .kept .0 ∙ c .before .before .before .before .before .before .copy-part2 .kept .0 ∙ c .before .before .before .before .before .before .before .before .before .before .copy-part .kept .0
 
 returns : tie.Need-returns
 returns c =

@@ -14,10 +14,10 @@ slice-write-pool : tie.Need-slice-write-pool
 slice-write-pool c = search needs
 
 same-length : tie.Need-same-length
-same-length c = search needs
+same-length c = c .before .before .before .before .replace .kept .0
 
 same-length-2 : tie.Need-same-length-2
-same-length-2 c = search needs
+same-length-2 c = c .before .before .before .before .replace .kept .1 .0
 
 same-length-3 : tie.Need-same-length-3
 same-length-3 c = search needs

@@ -1,4 +1,5 @@
 -- `make_two` meets its contract.
+use mathlib.Core.Path.{_∙_}
 use Rattle.ejection_made.proofs.MakeLaws.{has-one, out-lent, second-stop, two-stop, two-position, made-two}
 use native.Mathlib.Omega.{arith}
 use borrow.Author.Needs.{needs}
@@ -32,10 +33,10 @@ slice-write-pool-2 : tie.Need-slice-write-pool-2
 slice-write-pool-2 c = search needs
 
 same-length : tie.Need-same-length
-same-length c = search needs
+same-length c = c .before .before .before .before .replace .kept .0 ∙ c .before .before .before .before .before .before .before .before .before .before .before .take-out .kept .0
 
 same-length-2 : tie.Need-same-length-2
-same-length-2 c = search needs
+same-length-2 c = c .before .before .before .before .replace .kept .1 .0 ∙ c .before .before .before .before .before .before .before .before .before .before .before .take-out .kept .1 .0
 
 same-length-3 : tie.Need-same-length-3
 same-length-3 c = search needs

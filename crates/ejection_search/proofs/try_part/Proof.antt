@@ -24,10 +24,10 @@ try-some-requires c κs =
     (p .1 .0, (part-short (A .stops .now) (A .at) (A .end - A .at) _ (p .1 .1 .0), p .1 .1 .1))
 
 same-length : tie.Need-same-length
-same-length c = search needs
+same-length c = c .before .before .before .before .try-some .kept .0
 
 same-length-2 : tie.Need-same-length-2
-same-length-2 c = search needs
+same-length-2 c = c .before .before .before .before .try-some .kept .1 .0
 
 returns : tie.Need-returns
 returns c = search needs

@@ -10,10 +10,10 @@ eliminate-refusal-requires : tie.Need-eliminate-refusal-requires
 eliminate-refusal-requires c κs = search needs
 
 same-length : tie.Need-same-length
-same-length c = search needs
+same-length c = refl
 
 same-length-2 : tie.Need-same-length-2
-same-length-2 c = search needs
+same-length-2 c = refl
 
 returns : tie.Need-returns
 returns c = (eliminate-refused _ _ _ _ (c .before .eliminate-refusal .ensures) (λ z. omega (arith, c .if1 .taken, z)), refl)
@@ -24,13 +24,13 @@ eliminate-routes-requires c κs =
     eliminate-searches _ _ (t .result) _ (t .ensures) (omega (arith, c .before .before .before .if1 .left)) _ refl
 
 same-length-3 : tie.Need-same-length-3
-same-length-3 c = search needs
+same-length-3 c = c .before .before .before .before .before .before .eliminate-routes .kept .0
 
 same-length-4 : tie.Need-same-length-4
-same-length-4 c = search needs
+same-length-4 c = c .before .before .before .before .before .before .eliminate-routes .kept .1 .0
 
 same-length-5 : tie.Need-same-length-5
-same-length-5 c = search needs
+same-length-5 c = c .before .before .before .before .before .before .eliminate-routes .kept .1 .1 .0
 
 returns-2 : tie.Need-returns-2
 returns-2 c =

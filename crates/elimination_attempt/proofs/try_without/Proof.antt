@@ -1,4 +1,5 @@
 -- `try_without` meets its contract.
+use mathlib.Core.Path.{_∙_}
 use borrow.Author.Needs.{needs}
 use Rattle.elimination_attempt.proofs.AttemptLaws.{tried-gained, tried-refused, left-accepted, left-restored}
 use Rattle.elimination_attempt.proofs.try_without.Statement.{statement}
@@ -11,13 +12,13 @@ empty-route-requires : tie.Need-empty-route-requires
 empty-route-requires c κs = search needs
 
 same-length : tie.Need-same-length
-same-length c = search needs
+same-length c = c .before .before .before .before .before .empty-route .kept .0
 
 same-length-2 : tie.Need-same-length-2
-same-length-2 c = search needs
+same-length-2 c = c .before .before .before .before .before .empty-route .kept .1 .0
 
 same-length-3 : tie.Need-same-length-3
-same-length-3 c = search needs
+same-length-3 c = c .before .before .before .before .before .before .before .before .before .before .save .kept .0
 
 returns : tie.Need-returns
 returns c =
@@ -28,13 +29,13 @@ restore-requires : tie.Need-restore-requires
 restore-requires c κs = search needs
 
 same-length-4 : tie.Need-same-length-4
-same-length-4 c = search needs
+same-length-4 c = c .before .before .before .before .restore .kept .0 ∙ c .before .before .before .before .before .before .before .before .before .before .before .before .before .empty-route .kept .0
 
 same-length-5 : tie.Need-same-length-5
-same-length-5 c = search needs
+same-length-5 c = c .before .before .before .before .restore .kept .1 .0 ∙ c .before .before .before .before .before .before .before .before .before .before .before .before .before .empty-route .kept .1 .0
 
 same-length-6 : tie.Need-same-length-6
-same-length-6 c = search needs
+same-length-6 c = c .before .before .before .before .before .before .before .before .before .before .before .before .before .before .before .before .before .before .save .kept .0
 
 returns-2 : tie.Need-returns-2
 returns-2 c =

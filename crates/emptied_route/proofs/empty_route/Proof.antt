@@ -1,4 +1,5 @@
 -- `empty_route` meets its contract.
+use mathlib.Core.Path.{_∙_}
 use native.Mathlib.Omega.{arith}
 use borrow.Author.Needs.{needs}
 use Rattle.emptied_route.proofs.EmptiedLaws.{attempt-count, erased-waiting, erased-some, empty-stuck, empty-gained, empty-accepted, not-accepted}
@@ -38,16 +39,16 @@ move-into-requires c κs =
     )
 
 enum-known-sum : tie.Need-enum-known-sum
-enum-known-sum c = search needs
+enum-known-sum c = c .match .keys1
 
 enum-told : tie.Need-enum-told
-enum-told c = search needs
+enum-told c = c .match .keys2
 
 same-length : tie.Need-same-length
-same-length c = search needs
+same-length c = c .before .before .before .before .before .before .before .move-into .kept .0 ∙ c .before .before .before .before .before .before .before .before .before .before .before .before .before .before .before .erase-route .kept .0
 
 same-length-2 : tie.Need-same-length-2
-same-length-2 c = search needs
+same-length-2 c = c .before .before .before .before .before .before .before .move-into .kept .1 .0 ∙ c .before .before .before .before .before .before .before .before .before .before .before .before .before .before .before .erase-route .kept .1 .0
 
 returns : tie.Need-returns
 returns c =
@@ -58,10 +59,10 @@ returns c =
     (empty-stuck _ _ _ _ _ _ p (k .last .0) (k .ensures) (e .last .0) (e .last .1 .0) (e .ensures .0) (e .ensures .1) _ (m .result) (m .last .0) (m .last .1 .0) (m .ensures .0) (c .enum-told .given .1), not-accepted)
 
 same-length-3 : tie.Need-same-length-3
-same-length-3 c = search needs
+same-length-3 c = c .before .before .before .before .before .before .before .before .move-into .kept .0 ∙ c .before .before .before .before .before .before .before .before .before .before .before .before .before .before .before .before .erase-route .kept .0
 
 same-length-4 : tie.Need-same-length-4
-same-length-4 c = search needs
+same-length-4 c = c .before .before .before .before .before .before .before .before .move-into .kept .1 .0 ∙ c .before .before .before .before .before .before .before .before .before .before .before .before .before .before .before .before .erase-route .kept .1 .0
 
 returns-2 : tie.Need-returns-2
 returns-2 c =

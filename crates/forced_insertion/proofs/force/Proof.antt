@@ -1,5 +1,5 @@
 -- `force` meets its contract.
-use mathlib.Core.Path.{refl}
+use mathlib.Core.Path.{refl, _∙_}
 use Rattle.local_search.specs.Planned.{planned-stops}
 use Rattle.forced_insertion.proofs.PoolLaws.{leaves-inside, room-lent, room-planned, forced, forced-lent, stuck}
 use native.Mathlib.Omega.{arith}
@@ -16,22 +16,22 @@ add-steps : tie.Need-add-steps
 add-steps c = search needs
 
 enum-known-found : tie.Need-enum-known-found
-enum-known-found c = search needs
+enum-known-found c = c .match .keys1
 
 enum-told : tie.Need-enum-told
-enum-told c = search needs
+enum-told c = c .match .keys2
 
 same-length : tie.Need-same-length
-same-length c = search needs
+same-length c = refl
 
 same-length-2 : tie.Need-same-length-2
-same-length-2 c = search needs
+same-length-2 c = refl
 
 same-length-3 : tie.Need-same-length-3
-same-length-3 c = search needs
+same-length-3 c = c .before .before .before .before .before .before .before .eject .kept .0
 
 same-length-4 : tie.Need-same-length-4
-same-length-4 c = search needs
+same-length-4 c = c .before .before .before .before .before .before .before .eject .kept .1 .0
 
 returns : tie.Need-returns
 returns c =
@@ -52,19 +52,19 @@ perturb-requires c κs =
     (p .admitted, (room-lent _ _ _ _ _ _ (j .ensures) _ at _ _ _ _ _ _ (m .ensures) (p .lent) (m .kept .1 .0), room-planned _ _ _ _ _ _ (j .ensures) _ at _ _ _ _ _ _ (m .ensures) (p .lent) (m .kept .1 .0) (p .place) (p .planned), p .drawable, omega (arith, p .work-room, j .kept .0, m .kept .1 .0), p .draws, p .check))
 
 same-length-5 : tie.Need-same-length-5
-same-length-5 c = search needs
+same-length-5 c = c .before .before .before .before .before .before .perturb .kept .0 ∙ c .before .before .before .before .before .before .before .before .before .before .before .before .before .before .before .before .make-room .kept .0
 
 same-length-6 : tie.Need-same-length-6
-same-length-6 c = search needs
+same-length-6 c = c .before .before .before .before .before .before .perturb .kept .1 .0 ∙ c .before .before .before .before .before .before .before .before .before .before .before .before .before .before .before .before .make-room .kept .1 .0
 
 same-length-7 : tie.Need-same-length-7
-same-length-7 c = search needs
+same-length-7 c = c .before .before .before .before .before .before .before .before .before .before .before .before .before .before .before .before .make-room .kept .1 .1 .0
 
 same-length-8 : tie.Need-same-length-8
 same-length-8 c = omega (arith, c .before .before .before .before .before .before .before .before .before .before .before .before .before .before .before .before .before .before .before .before .before .before .before .before .before .before .before .before .eject .kept .0, c .before .before .before .before .before .before .perturb .kept .1 .1 .0)
 
 same-length-9 : tie.Need-same-length-9
-same-length-9 c = search needs
+same-length-9 c = c .before .before .before .before .before .before .before .before .before .before .before .before .before .before .before .before .before .before .before .before .before .before .before .before .before .before .before .before .eject .kept .1 .0
 
 returns-2 : tie.Need-returns-2
 returns-2 c =

@@ -5,10 +5,10 @@ use Rattle.insertion.proofs.cheaper.Statement.{statement}
 use Rattle.insertion.proofs.cheaper.Tie as tie
 
 enum-known-best : tie.Need-enum-known-best
-enum-known-best c = search needs
+enum-known-best c = c .match .keys1
 
 enum-told : tie.Need-enum-told
-enum-told c = search needs
+enum-told c = c .match .keys2
 
 returns : tie.Need-returns
 returns c = search needs

@@ -1,7 +1,6 @@
 -- `joined_stands` meets its contract.
 use Prim.Native.Nat.{zero-le}
 use Rattle.joined_tails.proofs.JoinLaws.{cells-none, cells-there, cells-stops, cells-feasible}
-use borrow.Author.Needs.{needs}
 use Rattle.joined_tails.proofs.joined_stands.Statement.{statement}
 use Rattle.joined_tails.proofs.joined_stands.Tie as tie
 
@@ -11,7 +10,7 @@ join-requires c κs =
     (q .4, (q .0, q .1, q .2, q .3))
 
 same-length : tie.Need-same-length
-same-length c = search needs
+same-length c = c .before .before .before .join .kept .0
 
 returns : tie.Need-returns
 returns c =
@@ -25,7 +24,7 @@ part-feasible-requires c κs =
     (q .0, (zero-le, cells-there _ _ _ _ _ _ _ (x .0) (x .1), cells-stops _ _ _ _ _ _ _ (x .0) (x .1) _ (q .1 .5) (q .1 .0) (q .1 .1) (q .1 .2), q .1 .6))
 
 same-length-2 : tie.Need-same-length-2
-same-length-2 c = search needs
+same-length-2 c = c .before .before .before .before .before .join .kept .0
 
 returns-2 : tie.Need-returns-2
 returns-2 c =

@@ -26,7 +26,7 @@ within-capacity-requires c κs =
     (q .0, cells-stops _ _ _ _ _ _ _ (x .0) (x .1) _ (q .1 .5) (q .1 .0) (q .1 .1) (q .1 .2))
 
 same-length : tie.Need-same-length
-same-length c = search needs
+same-length c = c .before .before .before .before .before .join .kept .0
 
 returns : tie.Need-returns
 returns c =

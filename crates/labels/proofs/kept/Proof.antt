@@ -5,10 +5,10 @@ use Rattle.labels.proofs.kept.Statement.{statement}
 use Rattle.labels.proofs.kept.Tie as tie
 
 enum-told : tie.Need-enum-told
-enum-told c = search needs
+enum-told c = c .match .keys1
 
 enum-known-taken : tie.Need-enum-known-taken
-enum-known-taken c = search needs
+enum-known-taken c = c .match .keys2
 
 returns : tie.Need-returns
 returns c = search needs

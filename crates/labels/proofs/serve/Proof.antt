@@ -5,10 +5,10 @@ use Rattle.labels.proofs.serve.Statement.{statement}
 use Rattle.labels.proofs.serve.Tie as tie
 
 enum-known-rest : tie.Need-enum-known-rest
-enum-known-rest c = search needs
+enum-known-rest c = c .match .keys1
 
 enum-told : tie.Need-enum-told
-enum-told c = search needs
+enum-told c = c .match .keys2
 
 kept-requires : tie.Need-kept-requires
 kept-requires c κs = search needs

@@ -5,10 +5,10 @@ use Rattle.labels.proofs.serve_at.Statement.{statement}
 use Rattle.labels.proofs.serve_at.Tie as tie
 
 enum-known-window : tie.Need-enum-known-window
-enum-known-window c = search needs
+enum-known-window c = c .match .keys1
 
 enum-told : tie.Need-enum-told
-enum-told c = search needs
+enum-told c = c .match .keys2
 
 returns : tie.Need-returns
 returns c = search serve-at-laws
@@ -20,10 +20,10 @@ is-violated-requires : tie.Need-is-violated-requires
 is-violated-requires c κs = search needs
 
 enum-known-soft : tie.Need-enum-known-soft
-enum-known-soft c = search needs
+enum-known-soft c = c .match2 .keys1
 
 enum-told-2 : tie.Need-enum-told-2
-enum-told-2 c = search needs
+enum-told-2 c = c .match2 .keys2
 
 returns-2 : tie.Need-returns-2
 returns-2 c = search serve-at-laws

@@ -5,10 +5,10 @@ use Rattle.labels.proofs.served_from.Statement.{statement}
 use Rattle.labels.proofs.served_from.Tie as tie
 
 enum-told : tie.Need-enum-told
-enum-told c = search needs
+enum-told c = c .match .keys1
 
 enum-known-from : tie.Need-enum-known-from
-enum-known-from c = search needs
+enum-known-from c = c .match .keys2
 
 serve-requires : tie.Need-serve-requires
 serve-requires c κs = search needs

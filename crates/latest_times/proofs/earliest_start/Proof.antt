@@ -5,13 +5,13 @@ use Rattle.latest_times.proofs.earliest_start.Tie as tie
 use Rattle.latest_times.proofs.earliest_start.Statement.{statement}
 
 enum-told : tie.Need-enum-told
-enum-told c = search needs
+enum-told c = c .match .keys1
 
 infinity-requires : tie.Need-infinity-requires
 infinity-requires c κs = search needs
 
 enum-known-window : tie.Need-enum-known-window
-enum-known-window c = search needs
+enum-known-window c = c .match .keys2
 
 returns : tie.Need-returns
 returns c = search earliest-none

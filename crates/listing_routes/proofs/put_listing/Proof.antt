@@ -1,7 +1,6 @@
 -- `put_listing` meets its contract. Assumes nothing.
-use mathlib.Core.Path.{sym}
+use mathlib.Core.Path.{sym, _∙_}
 use lib.Seq.{length-take-le}
-use borrow.Author.Needs.{needs}
 use Rattle.listing.specs.Listing.{of-listing}
 use Rattle.listing_routes.proofs.LineLaws.{taken-lent, taken-all, first-room, routes-room, last-room, listing-written}
 use Rattle.listing_routes.proofs.put_listing.Statement.{statement}
@@ -43,7 +42,7 @@ put-last-line-requires c κs =
     last-room (s .args .lengths .now) (s .args .stops .now) _ (q .1 .1 .0 .3) _ (s .args .counts) _ _ (q .0) _ _ (f .put-first-line .ensures) _ _ (g .put-routes .ensures)
 
 same-length : tie.Need-same-length
-same-length c = search needs
+same-length c = c .before .before .put-last-line .kept .0 ∙ c .before .before .before .before .before .before .put-routes .kept .0 ∙ c .before .before .before .before .before .before .before .before .before .before .before .put-first-line .kept .0
 
 returns : tie.Need-returns
 returns c =

@@ -28,7 +28,7 @@ put-route-line-requires c κs =
     line-room _ _ _ (s .args .vehicle) _ _ (d .route-distance .ensures) (q .1 .1 .1) (q .1 .1 .2) _ (l .load .ensures) _ _ _ (q .0)
 
 same-length : tie.Need-same-length
-same-length c = search needs
+same-length c = c .before .before .put-route-line .kept .0
 
 returns : tie.Need-returns
 returns c =

@@ -10,10 +10,10 @@ minimise-refusal-requires : tie.Need-minimise-refusal-requires
 minimise-refusal-requires c κs = search needs
 
 same-length : tie.Need-same-length
-same-length c = search needs
+same-length c = refl
 
 same-length-2 : tie.Need-same-length-2
-same-length-2 c = search needs
+same-length-2 c = refl
 
 returns : tie.Need-returns
 returns c = (minimise-refused _ _ _ _ _ _ (c .before .minimise-refusal .ensures) (λ z. omega (arith, c .if1 .taken, z)) _, (refl, refl))
@@ -24,16 +24,16 @@ minimize-routes-requires c κs =
     minimise-searches _ _ (t .result) _ _ _ (t .ensures) (omega (arith, c .before .before .before .before .if1 .left)) _ _ refl
 
 same-length-3 : tie.Need-same-length-3
-same-length-3 c = search needs
+same-length-3 c = c .before .before .before .before .before .before .before .before .minimize-routes .kept .0
 
 same-length-4 : tie.Need-same-length-4
-same-length-4 c = search needs
+same-length-4 c = c .before .before .before .before .before .before .before .before .minimize-routes .kept .1 .0
 
 same-length-5 : tie.Need-same-length-5
-same-length-5 c = search needs
+same-length-5 c = c .before .before .before .before .before .before .before .before .minimize-routes .kept .1 .1 .0
 
 same-length-6 : tie.Need-same-length-6
-same-length-6 c = search needs
+same-length-6 c = c .before .before .before .before .before .before .before .before .minimize-routes .kept .1 .1 .1 .0
 
 returns-2 : tie.Need-returns-2
 returns-2 c =

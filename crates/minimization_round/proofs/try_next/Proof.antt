@@ -10,13 +10,13 @@ next-pick-requires : tie.Need-next-pick-requires
 next-pick-requires c κs = search needs
 
 enum-known-pick : tie.Need-enum-known-pick
-enum-known-pick c = search needs
+enum-known-pick c = c .match .keys1
 
 enum-told : tie.Need-enum-told
-enum-told c = search needs
+enum-told c = c .match .keys2
 
 same-length : tie.Need-same-length
-same-length c = search needs
+same-length c = refl
 
 returns : tie.Need-returns
 returns c =
@@ -28,22 +28,22 @@ attempt-requires c κs =
     (q .0, (pick-there _ _ _ (c .before .before .before .before .before .before .before .next-pick .ensures) _ _ (c .before .before .before .before .before .pick .given .1), q .1 .0, q .1 .1, q .1 .2))
 
 enum-known-tried : tie.Need-enum-known-tried
-enum-known-tried c = search needs
+enum-known-tried c = c .match2 .keys1
 
 enum-known-tried-2 : tie.Need-enum-known-tried-2
-enum-known-tried-2 c = search needs
+enum-known-tried-2 c = c .match2 .keys2
 
 same-length-2 : tie.Need-same-length-2
-same-length-2 c = search needs
+same-length-2 c = c .before .before .before .before .before .before .before .before .before .before .before .attempt .kept .0
 
 same-length-3 : tie.Need-same-length-3
-same-length-3 c = search needs
+same-length-3 c = c .before .before .before .before .before .before .before .before .before .before .before .attempt .kept .1 .0
 
 same-length-4 : tie.Need-same-length-4
-same-length-4 c = search needs
+same-length-4 c = c .before .before .before .before .before .before .before .before .before .before .before .attempt .kept .1 .1 .0
 
 same-length-5 : tie.Need-same-length-5
-same-length-5 c = search needs
+same-length-5 c = c .before .before .before .before .before .before .before .before .before .before .before .attempt .kept .1 .1 .1 .0
 
 returns-2 : tie.Need-returns-2
 returns-2 c =
@@ -55,16 +55,16 @@ returns-2 c =
     pool-kept _ _ _ (u .ensures) _ _ (k .given .1) _ _ _ _ _ _ _ (t .ensures .0) (t .ensures .1) _ (q .1 .3) f
 
 same-length-6 : tie.Need-same-length-6
-same-length-6 c = search needs
+same-length-6 c = c .before .before .before .before .before .before .before .before .before .before .before .attempt .kept .0
 
 same-length-7 : tie.Need-same-length-7
-same-length-7 c = search needs
+same-length-7 c = c .before .before .before .before .before .before .before .before .before .before .before .attempt .kept .1 .0
 
 same-length-8 : tie.Need-same-length-8
-same-length-8 c = search needs
+same-length-8 c = c .before .before .before .before .before .before .before .before .before .before .before .attempt .kept .1 .1 .0
 
 same-length-9 : tie.Need-same-length-9
-same-length-9 c = search needs
+same-length-9 c = c .before .before .before .before .before .before .before .before .before .before .before .attempt .kept .1 .1 .1 .0
 
 returns-3 : tie.Need-returns-3
 returns-3 c =

@@ -1,7 +1,6 @@
 -- `search` meets its contract.
 use mathlib.Core.Path.{_≡_, refl, sym, ap, _∙_}
-use native.Mathlib.Omega.{arith}
-use borrow.Author.Needs.{needs}
+use native.Mathlib.Nat.{le-of-eq, le-trans}
 use lib.ListN.{length, take}
 use Rattle.models.specs.Problem.{problem}
 use Rattle.plan.specs.Plan.{split, drop-zero}
@@ -72,12 +71,12 @@ try-next-requires c κs =
     let q = st .pre .0 in
     let o = c .before .before .before .before .before .before .before .before .before .before .search .inv in
     let g = c .before .before .before .before .loop .inv in (
-      trying-attempt _ _ (g .0) _ _ _ _ (q .admitted) (st .pre .1) (q .drawable) (q .limited) (omega (arith, q .work-room, o .1, g .2)) (omega (arith, q .cells-room, o .2, g .3)),
-      (g .1 ∙ ap (cost _) (sym (trying-routes _ _ _ (g .0))), trying-routes-few _ _ _ (g .0), omega (arith, q .work-room, o .1, g .2), g .0 .drawn),
+      trying-attempt _ _ (g .0) _ _ _ _ (q .admitted) (st .pre .1) (q .drawable) (q .limited) (le-trans (q .work-room) (le-of-eq (sym (g .2 ∙ o .1)))) (le-trans (q .cells-room) (le-of-eq (sym (g .3 ∙ o .2)))),
+      (g .1 ∙ ap (cost _) (sym (trying-routes _ _ _ (g .0))), trying-routes-few _ _ _ (g .0), le-trans (q .work-room) (le-of-eq (sym (g .2 ∙ o .1))), g .0 .drawn),
     )
 
 enum-told : tie.Need-enum-told Inv-loop μ-loop Inv-search μ-search
-enum-told c = search needs
+enum-told c = c .match .keys1
 
 same-length : tie.Need-same-length Inv-loop μ-loop Inv-search μ-search
 same-length c =
@@ -119,7 +118,7 @@ returns c =
     at-end _ _ _ (g .0) _ _ _ (t .ensures .0) (t .ensures .1) (attempt-reduces _ _) _ _ (round-same _ _ _ (o .0) (q .few) _ _ (b .ensures .0) (b .ensures .1 .0)) (sym (b .kept .0 ∙ o .0 .long)) (c .enum-told .given .1)
 
 enum-known-next : tie.Need-enum-known-next Inv-loop μ-loop Inv-search μ-search
-enum-known-next c = search needs
+enum-known-next c = c .match .keys2
 
 loop-less : tie.Need-loop-less Inv-loop μ-loop Inv-search μ-search
 loop-less c =
@@ -134,7 +133,7 @@ loop-again c =
     (after-kept _ _ _ (g .0) _ _ _ (t .ensures .0) (t .ensures .1) _ _ (c .before .next .given .1), g .1, t .kept .1 .1 .0 ∙ g .2, t .kept .1 .1 .1 .0 ∙ g .3)
 
 enum-known-next-2 : tie.Need-enum-known-next-2 Inv-loop μ-loop Inv-search μ-search
-enum-known-next-2 c = search needs
+enum-known-next-2 c = c .match .keys3
 
 search-less : tie.Need-search-less Inv-loop μ-loop Inv-search μ-search
 search-less c =

@@ -21,10 +21,10 @@ move-next-requires : tie.Need-move-next-requires Inv-loop μ-loop
 move-next-requires c κs = (c .before .before .before .before .loop .inv .waiting, search needs)
 
 enum-known-next : tie.Need-enum-known-next Inv-loop μ-loop
-enum-known-next c = search needs
+enum-known-next c = c .match .keys1
 
 enum-told : tie.Need-enum-told Inv-loop μ-loop
-enum-told c = search needs
+enum-told c = c .match .keys2
 
 same-length : tie.Need-same-length Inv-loop μ-loop
 same-length c = search needs

@@ -20,13 +20,13 @@ move-stop-requires c κs =
     (next-asked _ _ _ _ _ _ _ (p .0) (p .1) _ _ _ (c .before .before .before .before .take-largest .ensures .0), next-room _ _ _ _ _ _ _ (p .0) (p .1), next-free _ _ _ _ _ _ _ (p .0) (p .1))
 
 same-length : tie.Need-same-length
-same-length c = search needs
+same-length c = c .before .before .before .before .move-stop .kept .0
 
 same-length-2 : tie.Need-same-length-2
-same-length-2 c = search needs
+same-length-2 c = c .before .before .before .before .move-stop .kept .1 .0
 
 same-length-3 : tie.Need-same-length-3
-same-length-3 c = search needs
+same-length-3 c = c .before .before .before .before .before .before .before .before .before .take-largest .kept .0
 
 returns : tie.Need-returns
 returns c =

@@ -32,7 +32,7 @@ same-length : tie.Need-same-length
 same-length c = search needs
 
 same-length-2 : tie.Need-same-length-2
-same-length-2 c = search needs
+same-length-2 c = c .before .before .before .insert-at .kept .0
 
 returns : tie.Need-returns
 returns c = search edit-laws

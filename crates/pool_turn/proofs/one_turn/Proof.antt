@@ -1,4 +1,5 @@
 -- `one_turn` meets its contract.
+use mathlib.Core.Path.{_∙_}
 use native.Mathlib.Nat.{le-refl}
 use Rattle.pool_turn.proofs.TurnLaws.{all-stops, in-pool, planned, top-place, room-left, top-failures, top-fits, one-failure-fits, turn-forcing, turn-placed, turn-forced, one-at-most, placed-lent}
 use native.Mathlib.Omega.{arith}
@@ -25,13 +26,13 @@ add-t34 : tie.Need-add-t34
 add-t34 c = let q = c .before .before .before .before .before .before .before .before .before .before .before .before .before .before .before .before .before .before .before .before .before .before .before .before .before .before .before .pre in omega (arith, q .1 .1)
 
 same-length : tie.Need-same-length
-same-length c = search needs
+same-length c = c .before .before .before .before .before .before .before .before .place .kept .0
 
 same-length-2 : tie.Need-same-length-2
-same-length-2 c = search needs
+same-length-2 c = c .before .before .before .before .before .before .before .before .place .kept .1 .0
 
 same-length-3 : tie.Need-same-length-3
-same-length-3 c = search needs
+same-length-3 c = c .before .before .before .before .before .before .before .before .place .kept .1 .1 .0
 
 returns : tie.Need-returns
 returns c =
@@ -63,22 +64,22 @@ force-requires c κs =
     turn-forcing _ _ _ _ _ _ _ _ _ _ _ _ (q .0) (q .1 .0) (le-refl 1) (q .1 .1) _ _ _ _ (t .ensures .0) (c .before .before .before .before .before .before .before .if1 .left) (t .ensures .1) (t .kept .1 .0) (t .kept .1 .1 .0)
 
 same-length-4 : tie.Need-same-length-4
-same-length-4 c = search needs
+same-length-4 c = c .before .before .before .before .before .before .before .before .before .before .force .kept .0 ∙ c .before .before .before .before .before .before .before .before .before .before .before .before .before .before .before .before .before .before .before .before .before .before .before .before .before .place .kept .0
 
 same-length-5 : tie.Need-same-length-5
-same-length-5 c = search needs
+same-length-5 c = c .before .before .before .before .before .before .before .before .before .before .force .kept .1 .0 ∙ c .before .before .before .before .before .before .before .before .before .before .before .before .before .before .before .before .before .before .before .before .before .before .before .before .before .place .kept .1 .0
 
 same-length-6 : tie.Need-same-length-6
-same-length-6 c = search needs
+same-length-6 c = c .before .before .before .before .before .before .before .before .before .before .force .kept .1 .1 .0
 
 same-length-7 : tie.Need-same-length-7
-same-length-7 c = search needs
+same-length-7 c = c .before .before .before .before .before .before .before .before .before .before .force .kept .1 .1 .1 .0
 
 same-length-8 : tie.Need-same-length-8
 same-length-8 c = search needs
 
 same-length-9 : tie.Need-same-length-9
-same-length-9 c = search needs
+same-length-9 c = c .before .before .before .before .before .before .before .before .before .before .force .kept .1 .1 .1 .1 .0 ∙ c .before .before .before .before .before .before .before .before .before .before .before .before .before .before .before .before .before .before .before .before .before .before .before .before .before .place .kept .1 .1 .0
 
 returns-2 : tie.Need-returns-2
 returns-2 c =

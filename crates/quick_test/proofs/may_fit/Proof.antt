@@ -14,10 +14,10 @@ leave-requires : tie.Need-leave-requires
 leave-requires c κs = search (needs, before-there)
 
 enum-known-done : tie.Need-enum-known-done
-enum-known-done c = search needs
+enum-known-done c = c .match .keys1
 
 enum-told : tie.Need-enum-told
-enum-told c = search needs
+enum-told c = c .match .keys2
 
 returns : tie.Need-returns
 returns c = search fit-laws

@@ -5,10 +5,10 @@ use Rattle.quick_test.proofs.served_at.Tie as tie
 use Rattle.quick_test.proofs.served_at.Statement.{statement}
 
 enum-known-window : tie.Need-enum-known-window
-enum-known-window c = search needs
+enum-known-window c = c .match .keys1
 
 enum-told : tie.Need-enum-told
-enum-told c = search needs
+enum-told c = c .match .keys2
 
 returns : tie.Need-returns
 returns c = search served-laws

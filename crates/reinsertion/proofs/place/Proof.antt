@@ -8,10 +8,10 @@ look-over-requires : tie.Need-look-over-requires
 look-over-requires c κs = search needs
 
 enum-known-best : tie.Need-enum-known-best
-enum-known-best c = search needs
+enum-known-best c = c .match .keys1
 
 enum-told : tie.Need-enum-told
-enum-told c = search needs
+enum-told c = c .match .keys2
 
 returns : tie.Need-returns
 returns c = search place-laws

@@ -1,4 +1,5 @@
 -- `attempt` meets its contract.
+use mathlib.Core.Path.{_∙_}
 use Prim.Native.Nat.{_≤_}
 use native.Mathlib.Omega.{arith}
 use borrow.Author.Needs.{needs}
@@ -28,7 +29,7 @@ try-without-requires c κs =
     (attempting-with _ (q .0) (scratch-room (st .args .lengths .now) (st .args .stops .now) (w .last .0) (q .1 .2) (q .0 .few) room), (q .1 .0, q .1 .1))
 
 enum-known-tried : tie.Need-enum-known-tried
-enum-known-tried c = search needs
+enum-known-tried c = c .match .keys1
 
 restore-requires : tie.Need-restore-requires
 restore-requires c κs =
@@ -40,16 +41,16 @@ restore-requires c κs =
     restorable (st .args .lengths .now) (st .args .stops .now) (w .last .0) (q .1 .2) (q .0 .few) room _ (t .last .0) (t .last .1 .0) (t .kept .0) (t .kept .1 .0)
 
 same-length : tie.Need-same-length
-same-length c = search needs
+same-length c = c .before .before .before .before .restore .kept .0 ∙ c .before .before .before .before .before .before .before .before .before .before .before .before .before .before .before .before .before .before .before .try-without .kept .0
 
 same-length-2 : tie.Need-same-length-2
-same-length-2 c = search needs
+same-length-2 c = c .before .before .before .before .restore .kept .1 .0 ∙ c .before .before .before .before .before .before .before .before .before .before .before .before .before .before .before .before .before .before .before .try-without .kept .1 .0
 
 same-length-3 : tie.Need-same-length-3
 same-length-3 c = search needs
 
 same-length-4 : tie.Need-same-length-4
-same-length-4 c = search needs
+same-length-4 c = c .before .before .before .before .before .before .before .before .before .before .before .before .before .before .before .before .before .before .before .try-without .kept .1 .1 .1 .0
 
 returns : tie.Need-returns
 returns c =
@@ -67,19 +68,19 @@ returns c =
     )
 
 enum-told : tie.Need-enum-told
-enum-told c = search needs
+enum-told c = c .match .keys2
 
 same-length-5 : tie.Need-same-length-5
-same-length-5 c = search needs
+same-length-5 c = c .before .before .before .before .before .before .before .before .before .before .try-without .kept .0
 
 same-length-6 : tie.Need-same-length-6
-same-length-6 c = search needs
+same-length-6 c = c .before .before .before .before .before .before .before .before .before .before .try-without .kept .1 .0
 
 same-length-7 : tie.Need-same-length-7
 same-length-7 c = search needs
 
 same-length-8 : tie.Need-same-length-8
-same-length-8 c = search needs
+same-length-8 c = c .before .before .before .before .before .before .before .before .before .before .try-without .kept .1 .1 .1 .0
 
 returns-2 : tie.Need-returns-2
 returns-2 c =

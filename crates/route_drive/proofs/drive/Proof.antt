@@ -17,10 +17,10 @@ serve-at-requires : tie.Need-serve-at-requires
 serve-at-requires c κs = search needs
 
 enum-told : tie.Need-enum-told
-enum-told c = search needs
+enum-told c = c .match .keys1
 
 enum-known-served : tie.Need-enum-known-served
-enum-known-served c = search needs
+enum-known-served c = c .match .keys2
 
 returns : tie.Need-returns
 returns c = search drive-laws

@@ -40,10 +40,10 @@ try-left-requires c κs =
     rw (kept-part _ _ _ _ _ (p .1 .2) (p .1 .3) (k .ensures .1) (k .ensures .0)) (p .0 .admitted, (p .0 .place, kept-stops _ _ _ _ (p .1 .2) (p .1 .3) (p .0 .stops), p .1 .1, p .0 .check))
 
 same-length : tie.Need-same-length
-same-length c = search needs
+same-length c = c .before .before .before .before .before .before .before .before .keep .kept .0
 
 same-length-2 : tie.Need-same-length-2
-same-length-2 c = search needs
+same-length-2 c = c .before .before .try-left .kept .0
 
 returns-2 : tie.Need-returns-2
 returns-2 c =

@@ -69,7 +69,7 @@ try-next-requires c κs =
     (trying-eliminating _ (g .0) _ (q .admitted) (omega (arith, q .work-room, c .before .before .before .before .before .before .before .before .search .inv .1, g .1)), (c .before .before .before .before .before .before .before .before .before .before .before .has-soft-windows .ensures, c .before .before .before .before .before .before .before .before .before .before .constrained .ensures, c .before .before .before .before .before .before .before .before .before .gain-floor .ensures))
 
 enum-told : tie.Need-enum-told Inv-loop μ-loop Inv-search μ-search
-enum-told c = search needs
+enum-told c = c .match .keys1
 
 same-length : tie.Need-same-length Inv-loop μ-loop Inv-search μ-search
 same-length c =
@@ -94,7 +94,7 @@ returns c =
     (at-end _ _ _ (c .before .before .before .before .before .before .before .before .before .before .before .before .loop .inv .0) _ _ _ (t .ensures .0) (t .ensures .1) (attempt-reduces _) _ _ (round-same _ _ _ o (c .before .before .before .before .before .before .before .before .before .before .before .before .before .before .before .before .before .before .before .before .before .before .before .before .before .before .before .before .before .before .before .pre .few) _ _ (b .ensures .0) (b .ensures .1)) (sym (b .kept .0 ∙ o .long)) (c .enum-told .given .1))
 
 enum-known-next : tie.Need-enum-known-next Inv-loop μ-loop Inv-search μ-search
-enum-known-next c = search needs
+enum-known-next c = c .match .keys2
 
 loop-less : tie.Need-loop-less Inv-loop μ-loop Inv-search μ-search
 loop-less c =
@@ -108,7 +108,7 @@ loop-again c =
     (after-refused _ (g .0) _ _ _ (t .ensures .0) (t .ensures .1) _ _ (c .before .next .given .1), t .kept .1 .1 .0 ∙ g .1)
 
 enum-told-2 : tie.Need-enum-told-2 Inv-loop μ-loop Inv-search μ-search
-enum-told-2 c = search needs
+enum-told-2 c = c .match .keys3
 
 search-less : tie.Need-search-less Inv-loop μ-loop Inv-search μ-search
 search-less c =

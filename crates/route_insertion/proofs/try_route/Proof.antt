@@ -20,13 +20,13 @@ try-positions-requires c κs =
     (p .0 .fit, (p .0 .depot-in, p .1 .0, p .1 .1, omega (arith, p .1 .2, c .before .before .before .before .prepare .kept .0), p .1 .3))
 
 same-length : tie.Need-same-length
-same-length c = search needs
+same-length c = c .before .before .before .before .before .prepare .kept .0
 
 returns : tie.Need-returns
 returns c = search route-laws
 
 same-length-2 : tie.Need-same-length-2
-same-length-2 c = search needs
+same-length-2 c = c .before .before .before .prepare .kept .0
 
 returns-2 : tie.Need-returns-2
 returns-2 c = search route-laws

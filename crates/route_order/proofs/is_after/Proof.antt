@@ -1,14 +1,13 @@
 -- `is_after` meets its contract.
-use borrow.Author.Needs.{needs}
 use Rattle.route_order.proofs.OrderLaws.{after-laws}
 use Rattle.route_order.proofs.is_after.Tie as tie
 use Rattle.route_order.proofs.is_after.Statement.{statement}
 
 enum-told : tie.Need-enum-told
-enum-told c = search needs
+enum-told c = c .match .keys1
 
 enum-known-last : tie.Need-enum-known-last
-enum-known-last c = search needs
+enum-known-last c = c .match .keys2
 
 returns : tie.Need-returns
 returns c = search after-laws

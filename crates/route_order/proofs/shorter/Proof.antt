@@ -1,14 +1,13 @@
 -- `shorter` meets its contract.
-use borrow.Author.Needs.{needs}
 use Rattle.route_order.proofs.OrderLaws.{shorter-laws}
 use Rattle.route_order.proofs.shorter.Tie as tie
 use Rattle.route_order.proofs.shorter.Statement.{statement}
 
 enum-told : tie.Need-enum-told
-enum-told c = search needs
+enum-told c = c .match .keys1
 
 enum-known-best : tie.Need-enum-known-best
-enum-known-best c = search needs
+enum-known-best c = c .match .keys2
 
 returns : tie.Need-returns
 returns c = search shorter-laws

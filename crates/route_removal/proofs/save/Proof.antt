@@ -1,4 +1,5 @@
 -- `save` meets its contract.
+use mathlib.Core.Path.{_∙_}
 use borrow.Author.Needs.{needs}
 use Rattle.route_removal.proofs.RemovalLaws.{saved-done}
 use Rattle.route_removal.proofs.save.Tie as tie
@@ -11,7 +12,7 @@ copy-part-requires-2 : tie.Need-copy-part-requires-2
 copy-part-requires-2 c κs = search needs
 
 same-length : tie.Need-same-length
-same-length c = search needs
+same-length c = c .before .before .copy-part2 .kept .0 ∙ c .before .before .before .before .before .before .copy-part .kept .0
 
 returns : tie.Need-returns
 returns c = search saved-done

@@ -1,4 +1,5 @@
 -- `keep_times` meets its contract.
+use mathlib.Core.Path.{_∙_}
 use borrow.Author.Needs.{needs}
 use native.Mathlib.Omega.{arith}
 use Rattle.route_times.proofs.PrepareLaws.{times-laws}
@@ -14,13 +15,13 @@ keep-latest-requires c κs =
     (p .0, (p .1 .0, p .1 .1, omega (arith, p .1 .2, c .before .before .before .before .keep-departures .kept .0)))
 
 same-length : tie.Need-same-length
-same-length c = search needs
+same-length c = c .before .before .keep-latest .kept .0 ∙ c .before .before .before .before .before .before .before .keep-departures .kept .0
 
 returns : tie.Need-returns
 returns c = search times-laws
 
 same-length-2 : tie.Need-same-length-2
-same-length-2 c = search needs
+same-length-2 c = c .before .before .before .keep-departures .kept .0
 
 returns-2 : tie.Need-returns-2
 returns-2 c = search times-laws

@@ -8,7 +8,7 @@ keep-times-requires : tie.Need-keep-times-requires
 keep-times-requires c κs = search needs
 
 same-length : tie.Need-same-length
-same-length c = search needs
+same-length c = c .before .before .keep-times .kept .0
 
 returns : tie.Need-returns
 returns c = search prepared-laws

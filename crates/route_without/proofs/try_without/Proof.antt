@@ -1,5 +1,5 @@
 -- `try_without` meets its contract.
-use mathlib.Core.Path.{refl}
+use mathlib.Core.Path.{refl, _∙_}
 use borrow.Author.Needs.{needs}
 use Rattle.route_without.proofs.WithoutLaws.{starts-running, without-tried, ends-with-0}
 use Rattle.route_without.proofs.try_without.Statement.{statement}
@@ -39,13 +39,13 @@ same-length : tie.Need-same-length
 same-length c = search needs
 
 same-length-2 : tie.Need-same-length-2
-same-length-2 c = search needs
+same-length-2 c = c .before .before .before .before .before .before .before .before .before .try-rest .kept .1 .0 ∙ c .before .before .before .before .before .before .before .before .before .before .before .before .before .before .before .before .before .before .before .erase-route .kept .1 .0
 
 same-length-3 : tie.Need-same-length-3
-same-length-3 c = search needs
+same-length-3 c = c .before .before .before .before .before .before .before .before .before .try-rest .kept .1 .1 .1 .0
 
 same-length-4 : tie.Need-same-length-4
-same-length-4 c = search needs
+same-length-4 c = c .before .before .before .before .before .before .before .before .before .try-rest .kept .1 .1 .1 .1 .0
 
 returns : tie.Need-returns
 returns c =

@@ -8,10 +8,10 @@ route-eval-requires : tie.Need-route-eval-requires
 route-eval-requires c κs = search needs
 
 enum-known-e : tie.Need-enum-known-e
-enum-known-e c = search needs
+enum-known-e c = c .match .keys1
 
 enum-told : tie.Need-enum-told
-enum-told c = search needs
+enum-told c = c .match .keys2
 
 infinity-requires : tie.Need-infinity-requires
 infinity-requires c κs = search needs

@@ -31,10 +31,10 @@ number-requires : tie.Need-number-requires
 number-requires c κs = search needs
 
 enum-known-v : tie.Need-enum-known-v
-enum-known-v c = search needs
+enum-known-v c = c .match .keys1
 
 enum-told : tie.Need-enum-told
-enum-told c = search needs
+enum-told c = c .match .keys2
 
 returns-3 : tie.Need-returns-3
 returns-3 c = search (readings, sign-laws)

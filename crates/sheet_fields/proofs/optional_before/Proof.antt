@@ -8,37 +8,37 @@ optional-requires : tie.Need-optional-requires
 optional-requires c κs = search needs
 
 enum-known-o : tie.Need-enum-known-o
-enum-known-o c = search needs
+enum-known-o c = c .match .keys1
 
 byte-requires : tie.Need-byte-requires
 byte-requires c κs = search needs
 
 enum-known-j : tie.Need-enum-known-j
-enum-known-j c = search needs
+enum-known-j c = c .match2 .keys1
 
 enum-told : tie.Need-enum-told
-enum-told c = search needs
+enum-told c = c .match2 .keys2
 
 returns : tie.Need-returns
 returns c = search readings
 
 enum-known-o-2 : tie.Need-enum-known-o-2
-enum-known-o-2 c = search needs
+enum-known-o-2 c = c .match .keys2
 
 byte-requires-2 : tie.Need-byte-requires-2
 byte-requires-2 c κs = search needs
 
 enum-known-j-2 : tie.Need-enum-known-j-2
-enum-known-j-2 c = search needs
+enum-known-j-2 c = c .match3 .keys1
 
 enum-told-2 : tie.Need-enum-told-2
-enum-told-2 c = search needs
+enum-told-2 c = c .match3 .keys2
 
 returns-2 : tie.Need-returns-2
 returns-2 c = search readings
 
 enum-told-3 : tie.Need-enum-told-3
-enum-told-3 c = search needs
+enum-told-3 c = c .match .keys3
 
 returns-3 : tie.Need-returns-3
 returns-3 c = search readings

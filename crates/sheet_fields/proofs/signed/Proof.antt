@@ -22,10 +22,10 @@ number-requires : tie.Need-number-requires
 number-requires c κs = search needs
 
 enum-known-v : tie.Need-enum-known-v
-enum-known-v c = search needs
+enum-known-v c = c .match .keys1
 
 enum-told : tie.Need-enum-told
-enum-told c = search needs
+enum-told c = c .match .keys2
 
 returns : tie.Need-returns
 returns c = search (readings, sign-laws)
@@ -47,10 +47,10 @@ number-requires-2 : tie.Need-number-requires-2
 number-requires-2 c κs = search needs
 
 enum-known-v-2 : tie.Need-enum-known-v-2
-enum-known-v-2 c = search needs
+enum-known-v-2 c = c .match2 .keys1
 
 enum-told-2 : tie.Need-enum-told-2
-enum-told-2 c = search needs
+enum-told-2 c = c .match2 .keys2
 
 returns-3 : tie.Need-returns-3
 returns-3 c = search (readings, sign-laws)

@@ -9,10 +9,10 @@ signed-requires : tie.Need-signed-requires
 signed-requires c κs = search needs
 
 enum-known-v : tie.Need-enum-known-v
-enum-known-v c = search needs
+enum-known-v c = c .match .keys1
 
 enum-told : tie.Need-enum-told
-enum-told c = search needs
+enum-told c = c .match .keys2
 
 returns : tie.Need-returns
 returns c = search readings
@@ -21,10 +21,10 @@ byte-requires : tie.Need-byte-requires
 byte-requires c κs = search needs
 
 enum-known-j : tie.Need-enum-known-j
-enum-known-j c = search needs
+enum-known-j c = c .match2 .keys1
 
 enum-told-2 : tie.Need-enum-told-2
-enum-told-2 c = search needs
+enum-told-2 c = c .match2 .keys2
 
 returns-2 : tie.Need-returns-2
 returns-2 c = search readings

@@ -10,10 +10,10 @@ word-requires : tie.Need-word-requires
 word-requires c κs = search needs
 
 enum-known-i : tie.Need-enum-known-i
-enum-known-i c = search needs
+enum-known-i c = c .match .keys1
 
 enum-told : tie.Need-enum-told
-enum-told c = search needs
+enum-told c = c .match .keys2
 
 returns : tie.Need-returns
 unfolding heading
@@ -23,10 +23,10 @@ byte-requires : tie.Need-byte-requires
 byte-requires c κs = search needs
 
 enum-known-j : tie.Need-enum-known-j
-enum-known-j c = search needs
+enum-known-j c = c .match2 .keys1
 
 enum-told-2 : tie.Need-enum-told-2
-enum-told-2 c = search needs
+enum-told-2 c = c .match2 .keys2
 
 returns-2 : tie.Need-returns-2
 unfolding heading
@@ -36,10 +36,10 @@ number-requires : tie.Need-number-requires
 number-requires c κs = search needs
 
 enum-known-v : tie.Need-enum-known-v
-enum-known-v c = search needs
+enum-known-v c = c .match3 .keys1
 
 enum-told-3 : tie.Need-enum-told-3
-enum-told-3 c = search needs
+enum-told-3 c = c .match3 .keys2
 
 returns-3 : tie.Need-returns-3
 unfolding heading
@@ -60,10 +60,10 @@ byte-requires-2 : tie.Need-byte-requires-2
 byte-requires-2 c κs = search needs
 
 enum-known-e : tie.Need-enum-known-e
-enum-known-e c = search needs
+enum-known-e c = c .match4 .keys1
 
 enum-told-4 : tie.Need-enum-told-4
-enum-told-4 c = search needs
+enum-told-4 c = c .match4 .keys2
 
 returns-6 : tie.Need-returns-6
 unfolding heading

@@ -1,5 +1,5 @@
 -- `list_read` meets its contract. Assumes nothing.
-use native.Mathlib.Omega.{arith}
+use native.Mathlib.Nat.{le-of-eq, le-trans}
 use borrow.Author.Needs.{needs}
 use mathlib.Core.Path.{sym, subst, _∙_}
 use Rattle.sheet_text.proofs.ReadLaws.{told}
@@ -13,7 +13,7 @@ sheet-requires : tie.Need-sheet-requires
 sheet-requires c κs = search needs
 
 enum-known-x : tie.Need-enum-known-x
-enum-known-x c = search needs
+enum-known-x c = c .match .keys1
 
 cast-put-refusal : tie.Need-cast-put-refusal
 cast-put-refusal c = search needs
@@ -22,7 +22,7 @@ put-refusal-requires : tie.Need-put-refusal-requires
 put-refusal-requires c κs = refusal-room _ _ (c .before .before .before .before .before .before .before .before .before .before .before .before .before .before .before .before .before .before .before .before .before .before .before .before .before .before .before .before .before .before .before .before .before .before .before .before .before .before .before .before .before .before .before .before .before .before .before .before .before .before .before .pre .0 .0)
 
 enum-known-x-2 : tie.Need-enum-known-x-2
-enum-known-x-2 c = search needs
+enum-known-x-2 c = c .match .keys2
 
 list-parts-requires : tie.Need-list-parts-requires
 list-parts-requires c κs =
@@ -31,18 +31,18 @@ list-parts-requires c κs =
     let e = c .before .before .before .before .before .before .before .before .before .before .before .before .before .before .before .x2 .given .1 in (
       q .0,
       (
-        (omega (arith, q .1 .0 .0, k .0), omega (arith, q .1 .0 .1, k .1 .0), omega (arith, q .1 .0 .2, k .1 .1 .0)),
+        (le-trans (q .1 .0 .0) (le-of-eq (sym (k .0))), le-trans (q .1 .0 .1) (le-of-eq (sym (k .1 .0))), le-trans (q .1 .0 .2) (le-of-eq (sym (k .1 .1 .0)))),
         (
           record {
-            demands = omega (arith, q .1 .1 .0 .demands, k .1 .1 .1 .0);
-            services = omega (arith, q .1 .1 .0 .services, k .1 .1 .1 .1 .0);
-            readies = omega (arith, q .1 .1 .0 .readies, k .1 .1 .1 .1 .1 .0);
-            dues = omega (arith, q .1 .1 .0 .dues, k .1 .1 .1 .1 .1 .1 .0);
-            penalties = omega (arith, q .1 .1 .0 .penalties, k .1 .1 .1 .1 .1 .1 .1 .0);
-            flag-cells = omega (arith, q .1 .1 .0 .flag-cells, k .1 .1 .1 .1 .1 .1 .1 .1 .0);
+            demands = le-trans (q .1 .1 .0 .demands) (le-of-eq (sym (k .1 .1 .1 .0)));
+            services = le-trans (q .1 .1 .0 .services) (le-of-eq (sym (k .1 .1 .1 .1 .0)));
+            readies = le-trans (q .1 .1 .0 .readies) (le-of-eq (sym (k .1 .1 .1 .1 .1 .0)));
+            dues = le-trans (q .1 .1 .0 .dues) (le-of-eq (sym (k .1 .1 .1 .1 .1 .1 .0)));
+            penalties = le-trans (q .1 .1 .0 .penalties) (le-of-eq (sym (k .1 .1 .1 .1 .1 .1 .1 .0)));
+            flag-cells = le-trans (q .1 .1 .0 .flag-cells) (le-of-eq (sym (k .1 .1 .1 .1 .1 .1 .1 .1 .0)));
           },
           (
-            (omega (arith, q .1 .1 .1 .0, k .1 .1 .1 .1 .1 .1 .1 .1 .1 .0), omega (arith, q .1 .1 .1 .1, k .1 .1 .1 .1 .1 .1 .1 .1 .1 .1 .0)),
+            (le-trans (q .1 .1 .1 .0) (le-of-eq (sym (k .1 .1 .1 .1 .1 .1 .1 .1 .1 .0))), le-trans (q .1 .1 .1 .1) (le-of-eq (sym (k .1 .1 .1 .1 .1 .1 .1 .1 .1 .1 .0)))),
             (subst SheetWithin e (c .before .before .before .before .before .before .before .before .before .before .before .before .before .before .before .before .before .before .before .before .before .before .before .before .before .before .before .before .before .before .before .before .before .before .before .before .before .before .sheet .ensures .1), sheet-holds _ _ _ _ (sym (told (told-sheet _ _ _ _ _ _) e (c .before .before .before .before .before .before .before .before .before .before .before .before .before .before .before .before .before .before .before .before .before .before .before .before .before .before .before .before .before .before .before .before .before .before .before .before .before .before .sheet .ensures .0))) .short),
           ),
         ),

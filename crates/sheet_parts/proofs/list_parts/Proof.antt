@@ -1,5 +1,6 @@
 -- `list_parts` meets its contract. Assumes nothing.
 use native.Mathlib.Omega.{arith}
+use native.Mathlib.Nat.{le-trans}
 use borrow.Author.Needs.{needs}
 use Prim.Native.Nat.{_≤_}
 use mathlib.Core.Path.{sym}
@@ -25,7 +26,7 @@ slice-relend-prefix-list-planned c = search needs
 slice-aggregate-list-planned : tie.Need-slice-aggregate-list-planned
 slice-aggregate-list-planned c =
     let s = c .before .before .before .before .before .before .before .before .before .before .before .before .before .before .before .before in
-    sym (length-take-le _ (s .args .lengths .now) (omega (arith, s .pre .1 .1 .1 .1 .0 .3, s .pre .1 .0 .0)))
+    sym (length-take-le _ (s .args .lengths .now) (le-trans (s .pre .1 .1 .1 .1 .0 .3) (s .pre .1 .0 .0)))
 
 slice-relend-prefix-list-planned-2 : tie.Need-slice-relend-prefix-list-planned-2
 slice-relend-prefix-list-planned-2 c = search needs
@@ -33,7 +34,7 @@ slice-relend-prefix-list-planned-2 c = search needs
 slice-aggregate-list-planned-2 : tie.Need-slice-aggregate-list-planned-2
 slice-aggregate-list-planned-2 c =
     let s = c .before .before .before .before .before .before .before .before .before .before .before .before .before .before .before .before .before in
-    sym (length-take-le _ (s .args .stops .now) (omega (arith, s .pre .1 .1 .1 .1 .0 .4, s .pre .1 .0 .1)))
+    sym (length-take-le _ (s .args .stops .now) (le-trans (s .pre .1 .1 .1 .1 .0 .4) (s .pre .1 .0 .1)))
 
 slice-aggregate-list-planned-3 : tie.Need-slice-aggregate-list-planned-3
 slice-aggregate-list-planned-3 c =
@@ -43,32 +44,32 @@ slice-aggregate-list-planned-3 c =
 slice-aggregate-list-planned-4 : tie.Need-slice-aggregate-list-planned-4
 slice-aggregate-list-planned-4 c =
     let s = c .before .before .before .before .before .before .before .before .before .before .before .before .before .before .before .before .before .before .before .before .before in
-    sym (length-take-le _ (s .args .demand .now) (omega (arith, s .pre .1 .1 .1 .1 .0 .0, s .pre .1 .1 .0 .demands)))
+    sym (length-take-le _ (s .args .demand .now) (le-trans (s .pre .1 .1 .1 .1 .0 .0) (s .pre .1 .1 .0 .demands)))
 
 slice-aggregate-list-planned-5 : tie.Need-slice-aggregate-list-planned-5
 slice-aggregate-list-planned-5 c =
     let s = c .before .before .before .before .before .before .before .before .before .before .before .before .before .before .before .before .before .before .before .before .before .before in
-    sym (length-take-le _ (s .args .service .now) (omega (arith, s .pre .1 .1 .1 .1 .0 .0, s .pre .1 .1 .0 .services)))
+    sym (length-take-le _ (s .args .service .now) (le-trans (s .pre .1 .1 .1 .1 .0 .0) (s .pre .1 .1 .0 .services)))
 
 slice-aggregate-list-planned-6 : tie.Need-slice-aggregate-list-planned-6
 slice-aggregate-list-planned-6 c =
     let s = c .before .before .before .before .before .before .before .before .before .before .before .before .before .before .before .before .before .before .before .before .before .before .before in
-    sym (length-take-le _ (s .args .ready .now) (omega (arith, s .pre .1 .1 .1 .1 .0 .0, s .pre .1 .1 .0 .readies)))
+    sym (length-take-le _ (s .args .ready .now) (le-trans (s .pre .1 .1 .1 .1 .0 .0) (s .pre .1 .1 .0 .readies)))
 
 slice-aggregate-list-planned-7 : tie.Need-slice-aggregate-list-planned-7
 slice-aggregate-list-planned-7 c =
     let s = c .before .before .before .before .before .before .before .before .before .before .before .before .before .before .before .before .before .before .before .before .before .before .before .before in
-    sym (length-take-le _ (s .args .due .now) (omega (arith, s .pre .1 .1 .1 .1 .0 .0, s .pre .1 .1 .0 .dues)))
+    sym (length-take-le _ (s .args .due .now) (le-trans (s .pre .1 .1 .1 .1 .0 .0) (s .pre .1 .1 .0 .dues)))
 
 slice-aggregate-list-planned-8 : tie.Need-slice-aggregate-list-planned-8
 slice-aggregate-list-planned-8 c =
     let s = c .before .before .before .before .before .before .before .before .before .before .before .before .before .before .before .before .before .before .before .before .before .before .before .before .before in
-    sym (length-take-le _ (s .args .penalty .now) (omega (arith, s .pre .1 .1 .1 .1 .0 .0, s .pre .1 .1 .0 .penalties)))
+    sym (length-take-le _ (s .args .penalty .now) (le-trans (s .pre .1 .1 .1 .1 .0 .0) (s .pre .1 .1 .0 .penalties)))
 
 slice-aggregate-list-planned-9 : tie.Need-slice-aggregate-list-planned-9
 slice-aggregate-list-planned-9 c =
     let s = c .before .before .before .before .before .before .before .before .before .before .before .before .before .before .before .before .before .before .before .before .before .before .before .before .before .before in
-    sym (length-take-le _ (s .args .flags .now) (omega (arith, s .pre .1 .1 .1 .1 .0 .0, s .pre .1 .1 .0 .flag-cells)))
+    sym (length-take-le _ (s .args .flags .now) (le-trans (s .pre .1 .1 .1 .1 .0 .0) (s .pre .1 .1 .0 .flag-cells)))
 
 slice-aggregate-list-planned-10 : tie.Need-slice-aggregate-list-planned-10
 slice-aggregate-list-planned-10 c =
@@ -83,10 +84,10 @@ slice-aggregate-list-planned-11 c =
 list-planned-requires : tie.Need-list-planned-requires
 list-planned-requires c κs =
     let s = c .before .before .before .before .before .before .before .before .before .before .before .before .before .before .before .before .before .before .before .before .before .before .before .before .before .before .before .before in
-    ((s .pre .0 .0, omega (arith, s .pre .1 .1 .1 .1 .0 .3, length-take-le (s .args .given) (s .args .lengths .now) (omega (arith, s .pre .1 .1 .1 .1 .0 .3, s .pre .1 .0 .0))), omega (arith, s .pre .1 .1 .1 .1 .0 .4, length-take-le (s .args .used) (s .args .stops .now) (omega (arith, s .pre .1 .1 .1 .1 .0 .4, s .pre .1 .0 .1))), s .pre .0 .1, s .pre .0 .2), s .pre .1 .1 .1 .1 .1)
+    ((s .pre .0 .0, omega (arith, s .pre .1 .1 .1 .1 .0 .3, length-take-le (s .args .given) (s .args .lengths .now) (le-trans (s .pre .1 .1 .1 .1 .0 .3) (s .pre .1 .0 .0))), omega (arith, s .pre .1 .1 .1 .1 .0 .4, length-take-le (s .args .used) (s .args .stops .now) (le-trans (s .pre .1 .1 .1 .1 .0 .4) (s .pre .1 .0 .1))), s .pre .0 .1, s .pre .0 .2), s .pre .1 .1 .1 .1 .1)
 
 same-length : tie.Need-same-length
-same-length c = search needs
+same-length c = c .before .before .before .before .before .before .before .before .before .before .list-planned .kept .0
 
 same-length-2 : tie.Need-same-length-2
 same-length-2 c = search needs
@@ -95,10 +96,10 @@ same-length-3 : tie.Need-same-length-3
 same-length-3 c = search needs
 
 same-length-4 : tie.Need-same-length-4
-same-length-4 c = search needs
+same-length-4 c = c .before .before .before .before .before .before .before .before .before .before .list-planned .kept .1 .1 .1 .0
 
 same-length-5 : tie.Need-same-length-5
-same-length-5 c = search needs
+same-length-5 c = c .before .before .before .before .before .before .before .before .before .before .list-planned .kept .1 .1 .1 .1 .0
 
 returns : tie.Need-returns
 returns c = c .before .before .before .before .before .before .before .before .before .before .list-planned .ensures

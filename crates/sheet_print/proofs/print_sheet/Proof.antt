@@ -8,10 +8,10 @@ plan-sheet-requires : tie.Need-plan-sheet-requires
 plan-sheet-requires c κs = search needs
 
 enum-told : tie.Need-enum-told
-enum-told c = search needs
+enum-told c = c .match .keys1
 
 enum-known-p : tie.Need-enum-known-p
-enum-known-p c = search needs
+enum-known-p c = c .match .keys2
 
 slice-reshare-prefix-write-all : tie.Need-slice-reshare-prefix-write-all
 slice-reshare-prefix-write-all c =
@@ -33,7 +33,7 @@ returns : tie.Need-returns
 returns c = search needs
 
 same-length-2 : tie.Need-same-length-2
-same-length-2 c = search needs
+same-length-2 c = c .before .before .before .before .before .before .before .plan-sheet .kept .0
 
 returns-2 : tie.Need-returns-2
 returns-2 c = search needs

@@ -15,19 +15,19 @@ vehicle-requires : tie.Need-vehicle-requires
 vehicle-requires c κs = search needs
 
 enum-known-v : tie.Need-enum-known-v
-enum-known-v c = search needs
+enum-known-v c = c .match .keys1
 
 enum-known-v-2 : tie.Need-enum-known-v-2
-enum-known-v-2 c = search needs
+enum-known-v-2 c = c .match .keys2
 
 places-requires : tie.Need-places-requires
 places-requires c κs = search needs
 
 enum-known-p : tie.Need-enum-known-p
-enum-known-p c = search needs
+enum-known-p c = c .match2 .keys1
 
 enum-known-p-2 : tie.Need-enum-known-p-2
-enum-known-p-2 c = search needs
+enum-known-p-2 c = c .match2 .keys2
 
 roads-requires : tie.Need-roads-requires
 roads-requires c κs =
@@ -40,19 +40,19 @@ roads-requires c κs =
     (square-fits _ _ few (b35 .pre .1 .0), square-fits _ _ few (b35 .pre .1 .1))
 
 enum-known-m : tie.Need-enum-known-m
-enum-known-m c = search needs
+enum-known-m c = c .match3 .keys1
 
 enum-known-m-2 : tie.Need-enum-known-m-2
-enum-known-m-2 c = search needs
+enum-known-m-2 c = c .match3 .keys2
 
 rest-requires : tie.Need-rest-requires
 rest-requires c κs = search needs
 
 enum-known-b : tie.Need-enum-known-b
-enum-known-b c = search needs
+enum-known-b c = c .match4 .keys1
 
 enum-known-b-2 : tie.Need-enum-known-b-2
-enum-known-b-2 c = search needs
+enum-known-b-2 c = c .match4 .keys2
 
 with-rest-requires : tie.Need-with-rest-requires
 with-rest-requires c κs = search needs
@@ -65,22 +65,22 @@ returns c =
     (no-vehicle _ _ _ (told told-vehicle (b1 .v .given .1) (b3 .vehicle .ensures)), tt)
 
 same-length : tie.Need-same-length
-same-length c = search needs
+same-length c = c .before .before .before .before .before .before .before .before .before .before .before .before .before .before .places .kept .0
 
 same-length-2 : tie.Need-same-length-2
-same-length-2 c = search needs
+same-length-2 c = c .before .before .before .before .before .before .before .before .before .before .before .before .before .before .places .kept .1 .0
 
 same-length-3 : tie.Need-same-length-3
-same-length-3 c = search needs
+same-length-3 c = c .before .before .before .before .before .before .before .before .before .before .before .before .before .before .places .kept .1 .1 .0
 
 same-length-4 : tie.Need-same-length-4
-same-length-4 c = search needs
+same-length-4 c = c .before .before .before .before .before .before .before .before .before .before .before .before .before .before .places .kept .1 .1 .1 .0
 
 same-length-5 : tie.Need-same-length-5
-same-length-5 c = search needs
+same-length-5 c = c .before .before .before .before .before .before .before .before .before .before .before .before .before .before .places .kept .1 .1 .1 .1 .0
 
 same-length-6 : tie.Need-same-length-6
-same-length-6 c = search needs
+same-length-6 c = c .before .before .before .before .before .before .before .before .before .before .before .before .before .before .places .kept .1 .1 .1 .1 .1 .0
 
 returns-2 : tie.Need-returns-2
 returns-2 c =
@@ -92,28 +92,28 @@ returns-2 c =
     (no-places _ _ _ _ (told told-vehicle (b22 .v2 .given .1) (b24 .vehicle .ensures)) _ (told (filled-places _) (b1 .p .given .1) (b14 .places .ensures .0)), tt)
 
 same-length-7 : tie.Need-same-length-7
-same-length-7 c = search needs
+same-length-7 c = c .before .before .before .before .before .before .before .before .before .before .before .before .before .before .before .before .before .before .before .before .before .before .before .before .places .kept .0
 
 same-length-8 : tie.Need-same-length-8
-same-length-8 c = search needs
+same-length-8 c = c .before .before .before .before .before .before .before .before .before .before .before .before .before .before .before .before .before .before .before .before .before .before .before .before .places .kept .1 .0
 
 same-length-9 : tie.Need-same-length-9
-same-length-9 c = search needs
+same-length-9 c = c .before .before .before .before .before .before .before .before .before .before .before .before .before .before .before .before .before .before .before .before .before .before .before .before .places .kept .1 .1 .0
 
 same-length-10 : tie.Need-same-length-10
-same-length-10 c = search needs
+same-length-10 c = c .before .before .before .before .before .before .before .before .before .before .before .before .before .before .before .before .before .before .before .before .before .before .before .before .places .kept .1 .1 .1 .0
 
 same-length-11 : tie.Need-same-length-11
-same-length-11 c = search needs
+same-length-11 c = c .before .before .before .before .before .before .before .before .before .before .before .before .before .before .before .before .before .before .before .before .before .before .before .before .places .kept .1 .1 .1 .1 .0
 
 same-length-12 : tie.Need-same-length-12
-same-length-12 c = search needs
+same-length-12 c = c .before .before .before .before .before .before .before .before .before .before .before .before .before .before .before .before .before .before .before .before .before .before .before .before .places .kept .1 .1 .1 .1 .1 .0
 
 same-length-13 : tie.Need-same-length-13
-same-length-13 c = search needs
+same-length-13 c = c .before .before .before .before .before .before .before .roads .kept .0
 
 same-length-14 : tie.Need-same-length-14
-same-length-14 c = search needs
+same-length-14 c = c .before .before .before .before .before .before .before .roads .kept .1 .0
 
 returns-3 : tie.Need-returns-3
 returns-3 c =
@@ -128,28 +128,28 @@ returns-3 c =
     (no-roads _ _ _ _ (told told-vehicle (b32 .v2 .given .1) (b34 .vehicle .ensures)) _ _ _ (omega (arith, few, b43 .pre .0 .demands, b24 .places .kept .0)) (told (filled-places _) (b11 .p2 .given .1) (b24 .places .ensures .0)) _ (told (filled-roads _ _ _) (b1 .m .given .1) (b7 .roads .ensures .0)), tt)
 
 same-length-15 : tie.Need-same-length-15
-same-length-15 c = search needs
+same-length-15 c = c .before .before .before .before .before .before .before .before .before .before .before .before .before .before .before .before .before .before .before .before .before .before .before .before .before .before .before .before .places .kept .0
 
 same-length-16 : tie.Need-same-length-16
-same-length-16 c = search needs
+same-length-16 c = c .before .before .before .before .before .before .before .before .before .before .before .before .before .before .before .before .before .before .before .before .before .before .before .before .before .before .before .before .places .kept .1 .0
 
 same-length-17 : tie.Need-same-length-17
-same-length-17 c = search needs
+same-length-17 c = c .before .before .before .before .before .before .before .before .before .before .before .before .before .before .before .before .before .before .before .before .before .before .before .before .before .before .before .before .places .kept .1 .1 .0
 
 same-length-18 : tie.Need-same-length-18
-same-length-18 c = search needs
+same-length-18 c = c .before .before .before .before .before .before .before .before .before .before .before .before .before .before .before .before .before .before .before .before .before .before .before .before .before .before .before .before .places .kept .1 .1 .1 .0
 
 same-length-19 : tie.Need-same-length-19
-same-length-19 c = search needs
+same-length-19 c = c .before .before .before .before .before .before .before .before .before .before .before .before .before .before .before .before .before .before .before .before .before .before .before .before .before .before .before .before .places .kept .1 .1 .1 .1 .0
 
 same-length-20 : tie.Need-same-length-20
-same-length-20 c = search needs
+same-length-20 c = c .before .before .before .before .before .before .before .before .before .before .before .before .before .before .before .before .before .before .before .before .before .before .before .before .before .before .before .before .places .kept .1 .1 .1 .1 .1 .0
 
 same-length-21 : tie.Need-same-length-21
-same-length-21 c = search needs
+same-length-21 c = c .before .before .before .before .before .before .before .before .before .before .before .roads .kept .0
 
 same-length-22 : tie.Need-same-length-22
-same-length-22 c = search needs
+same-length-22 c = c .before .before .before .before .before .before .before .before .before .before .before .roads .kept .1 .0
 
 returns-4 : tie.Need-returns-4
 returns-4 c =
@@ -175,19 +175,19 @@ same-length-25 : tie.Need-same-length-25
 same-length-25 c = c .before .before .before .before .before .before .before .before .before .before .before .before .before .before .before .before .before .before .before .before .before .before .before .before .before .before .before .before .before .places .kept .1 .1 .0
 
 same-length-26 : tie.Need-same-length-26
-same-length-26 c = search needs
+same-length-26 c = c .before .before .before .before .before .before .before .before .before .before .before .before .before .before .before .before .before .before .before .before .before .before .before .before .before .before .before .before .before .places .kept .1 .1 .1 .0
 
 same-length-27 : tie.Need-same-length-27
-same-length-27 c = search needs
+same-length-27 c = c .before .before .before .before .before .before .before .before .before .before .before .before .before .before .before .before .before .before .before .before .before .before .before .before .before .before .before .before .before .places .kept .1 .1 .1 .1 .0
 
 same-length-28 : tie.Need-same-length-28
-same-length-28 c = search needs
+same-length-28 c = c .before .before .before .before .before .before .before .before .before .before .before .before .before .before .before .before .before .before .before .before .before .before .before .before .before .before .before .before .before .places .kept .1 .1 .1 .1 .1 .0
 
 same-length-29 : tie.Need-same-length-29
-same-length-29 c = search needs
+same-length-29 c = c .before .before .before .before .before .before .before .before .before .before .before .before .roads .kept .0
 
 same-length-30 : tie.Need-same-length-30
-same-length-30 c = search needs
+same-length-30 c = c .before .before .before .before .before .before .before .before .before .before .before .before .roads .kept .1 .0
 
 returns-5 : tie.Need-returns-5
 returns-5 c =

@@ -9,10 +9,10 @@ number-before-requires : tie.Need-number-before-requires
 number-before-requires c κs = search needs
 
 enum-known-earliest : tie.Need-enum-known-earliest
-enum-known-earliest c = search needs
+enum-known-earliest c = c .match .keys1
 
 enum-told : tie.Need-enum-told
-enum-told c = search needs
+enum-told c = c .match .keys2
 
 returns : tie.Need-returns
 unfolding rest-line
@@ -22,10 +22,10 @@ number-before-requires-2 : tie.Need-number-before-requires-2
 number-before-requires-2 c κs = search needs
 
 enum-known-latest : tie.Need-enum-known-latest
-enum-known-latest c = search needs
+enum-known-latest c = c .match2 .keys1
 
 enum-told-2 : tie.Need-enum-told-2
-enum-told-2 c = search needs
+enum-told-2 c = c .match2 .keys2
 
 returns-2 : tie.Need-returns-2
 unfolding rest-line
@@ -35,10 +35,10 @@ number-before-requires-3 : tie.Need-number-before-requires-3
 number-before-requires-3 c κs = search needs
 
 enum-known-duration : tie.Need-enum-known-duration
-enum-known-duration c = search needs
+enum-known-duration c = c .match3 .keys1
 
 enum-told-3 : tie.Need-enum-told-3
-enum-told-3 c = search needs
+enum-told-3 c = c .match3 .keys2
 
 returns-3 : tie.Need-returns-3
 unfolding rest-line

@@ -13,22 +13,22 @@ heading-requires : tie.Need-heading-requires
 heading-requires c κs = search needs
 
 enum-known-h : tie.Need-enum-known-h
-enum-known-h c = search needs
+enum-known-h c = c .match .keys1
 
 enum-known-h-2 : tie.Need-enum-known-h-2
-enum-known-h-2 c = search needs
+enum-known-h-2 c = c .match .keys2
 
 square-requires : tie.Need-square-requires
 square-requires c κs = search needs
 
 enum-known-e : tie.Need-enum-known-e
-enum-known-e c = search needs
+enum-known-e c = c .match2 .keys1
 
 enum-told : tie.Need-enum-told
-enum-told c = search needs
+enum-told c = c .match2 .keys2
 
 same-length : tie.Need-same-length
-same-length c = search needs
+same-length c = c .before .before .before .before .square .kept .0
 
 returns : tie.Need-returns
 unfolding distances
@@ -39,7 +39,7 @@ unfolding distances
 returns-2 c = search (readings, sections)
 
 same-length-2 : tie.Need-same-length-2
-same-length-2 c = search needs
+same-length-2 c = c .before .before .before .before .before .square .kept .0
 
 returns-3 : tie.Need-returns-3
 unfolding distances

@@ -8,16 +8,16 @@ distances-requires : tie.Need-distances-requires
 distances-requires c κs = search needs
 
 enum-known-d : tie.Need-enum-known-d
-enum-known-d c = search needs
+enum-known-d c = c .match .keys1
 
 enum-known-d-2 : tie.Need-enum-known-d-2
-enum-known-d-2 c = search needs
+enum-known-d-2 c = c .match .keys2
 
 times-requires : tie.Need-times-requires
 times-requires c κs = search needs
 
 same-length : tie.Need-same-length
-same-length c = search needs
+same-length c = c .before .before .before .before .before .distances .kept .0
 
 returns : tie.Need-returns
 returns c = (no-distances _ _ _ _ _ (c .before .before .before .before .before .distances .ensures) _ (c .before .d .given .1), tt)
@@ -26,7 +26,7 @@ same-length-2 : tie.Need-same-length-2
 same-length-2 c = search needs
 
 same-length-3 : tie.Need-same-length-3
-same-length-3 c = search needs
+same-length-3 c = c .before .before .times .kept .0
 
 returns-2 : tie.Need-returns-2
 returns-2 c =

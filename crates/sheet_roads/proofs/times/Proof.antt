@@ -14,10 +14,10 @@ heading-requires : tie.Need-heading-requires
 heading-requires c κs = search needs
 
 enum-known-h : tie.Need-enum-known-h
-enum-known-h c = search needs
+enum-known-h c = c .match .keys1
 
 enum-known-h-2 : tie.Need-enum-known-h-2
-enum-known-h-2 c = search needs
+enum-known-h-2 c = c .match .keys2
 
 returns : tie.Need-returns
 unfolding times
@@ -31,13 +31,13 @@ square-requires : tie.Need-square-requires
 square-requires c κs = search needs
 
 enum-known-e : tie.Need-enum-known-e
-enum-known-e c = search needs
+enum-known-e c = c .match2 .keys1
 
 enum-told : tie.Need-enum-told
-enum-told c = search needs
+enum-told c = c .match2 .keys2
 
 same-length : tie.Need-same-length
-same-length c = search needs
+same-length c = c .before .before .before .before .square .kept .0
 
 returns-3 : tie.Need-returns-3
 unfolding times
@@ -48,7 +48,7 @@ unfolding times
 returns-4 c = (search (readings, sections, times-laws), search needs)
 
 same-length-2 : tie.Need-same-length-2
-same-length-2 c = search needs
+same-length-2 c = c .before .before .before .before .before .square .kept .0
 
 returns-5 : tie.Need-returns-5
 unfolding times

@@ -11,10 +11,10 @@ run-requires : tie.Need-run-requires
 run-requires c κs = search needs
 
 enum-known-r : tie.Need-enum-known-r
-enum-known-r c = search needs
+enum-known-r c = c .match .keys1
 
 enum-known-r-2 : tie.Need-enum-known-r-2
-enum-known-r-2 c = search needs
+enum-known-r-2 c = c .match .keys2
 
 returns : tie.Need-returns
 unfolding last-run

@@ -12,10 +12,10 @@ heading-requires : tie.Need-heading-requires
 heading-requires c κs = search needs
 
 enum-known-h : tie.Need-enum-known-h
-enum-known-h c = search needs
+enum-known-h c = c .match .keys1
 
 enum-known-h-2 : tie.Need-enum-known-h-2
-enum-known-h-2 c = search needs
+enum-known-h-2 c = c .match .keys2
 
 run-line-requires : tie.Need-run-line-requires
 run-line-requires c κs = search needs

@@ -9,10 +9,10 @@ number-before-requires : tie.Need-number-before-requires
 number-before-requires c κs = search needs
 
 enum-known-m : tie.Need-enum-known-m
-enum-known-m c = search needs
+enum-known-m c = c .match .keys1
 
 enum-told : tie.Need-enum-told
-enum-told c = search needs
+enum-told c = c .match .keys2
 
 returns : tie.Need-returns
 unfolding run-line
@@ -22,10 +22,10 @@ number-before-requires-2 : tie.Need-number-before-requires-2
 number-before-requires-2 c κs = search needs
 
 enum-known-k : tie.Need-enum-known-k
-enum-known-k c = search needs
+enum-known-k c = c .match2 .keys1
 
 enum-told-2 : tie.Need-enum-told-2
-enum-told-2 c = search needs
+enum-told-2 c = c .match2 .keys2
 
 returns-2 : tie.Need-returns-2
 unfolding run-line

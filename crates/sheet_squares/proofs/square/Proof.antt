@@ -32,10 +32,10 @@ number-row-requires c κs =
     omega (arith, t .before .before .before .before .pre, l .inv .1, l .inv .2, row-room (l .left) (t .before .before .before .before .args .n) (t .loop-test .taken))
 
 enum-known-j : tie.Need-enum-known-j Inv-loop μ-loop
-enum-known-j c = search needs
+enum-known-j c = c .match .keys1
 
 enum-told : tie.Need-enum-told Inv-loop μ-loop
-enum-told c = search needs
+enum-told c = c .match .keys2
 
 same-length : tie.Need-same-length Inv-loop μ-loop
 same-length c = search needs

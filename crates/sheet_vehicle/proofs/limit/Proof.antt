@@ -9,16 +9,16 @@ optional-before-requires : tie.Need-optional-before-requires
 optional-before-requires c κs = search needs
 
 enum-known-o : tie.Need-enum-known-o
-enum-known-o c = search needs
+enum-known-o c = c .match .keys1
 
 int-to-float-t9 : tie.Need-int-to-float-t9
 int-to-float-t9 c = search needs
 
 enum-known-o-2 : tie.Need-enum-known-o-2
-enum-known-o-2 c = search needs
+enum-known-o-2 c = c .match .keys2
 
 enum-told : tie.Need-enum-told
-enum-told c = search needs
+enum-told c = c .match .keys3
 
 returns : tie.Need-returns
 unfolding limit

@@ -11,10 +11,10 @@ signed-before-requires : tie.Need-signed-before-requires
 signed-before-requires c κs = search needs
 
 enum-known-capacity : tie.Need-enum-known-capacity
-enum-known-capacity c = search needs
+enum-known-capacity c = c .match .keys1
 
 enum-told : tie.Need-enum-told
-enum-told c = search needs
+enum-told c = c .match .keys2
 
 returns : tie.Need-returns
 unfolding vehicle-line
@@ -24,10 +24,10 @@ number-before-requires : tie.Need-number-before-requires
 number-before-requires c κs = search needs
 
 enum-known-depot : tie.Need-enum-known-depot
-enum-known-depot c = search needs
+enum-known-depot c = c .match2 .keys1
 
 enum-told-2 : tie.Need-enum-told-2
-enum-told-2 c = search needs
+enum-told-2 c = c .match2 .keys2
 
 returns-2 : tie.Need-returns-2
 unfolding vehicle-line
@@ -41,10 +41,10 @@ number-before-requires-2 : tie.Need-number-before-requires-2
 number-before-requires-2 c κs = search needs
 
 enum-known-fixed : tie.Need-enum-known-fixed
-enum-known-fixed c = search needs
+enum-known-fixed c = c .match3 .keys1
 
 enum-told-3 : tie.Need-enum-told-3
-enum-told-3 c = search needs
+enum-told-3 c = c .match3 .keys2
 
 returns-4 : tie.Need-returns-4
 unfolding vehicle-line
@@ -54,10 +54,10 @@ number-before-requires-3 : tie.Need-number-before-requires-3
 number-before-requires-3 c κs = search needs
 
 enum-known-per : tie.Need-enum-known-per
-enum-known-per c = search needs
+enum-known-per c = c .match4 .keys1
 
 enum-told-4 : tie.Need-enum-told-4
-enum-told-4 c = search needs
+enum-told-4 c = c .match4 .keys2
 
 returns-5 : tie.Need-returns-5
 unfolding vehicle-line
@@ -67,10 +67,10 @@ limit-requires : tie.Need-limit-requires
 limit-requires c κs = search needs
 
 enum-known-max-distance : tie.Need-enum-known-max-distance
-enum-known-max-distance c = search needs
+enum-known-max-distance c = c .match5 .keys1
 
 enum-told-5 : tie.Need-enum-told-5
-enum-told-5 c = search needs
+enum-told-5 c = c .match5 .keys2
 
 returns-6 : tie.Need-returns-6
 unfolding vehicle-line
@@ -80,10 +80,10 @@ limit-requires-2 : tie.Need-limit-requires-2
 limit-requires-2 c κs = search needs
 
 enum-known-max-duration : tie.Need-enum-known-max-duration
-enum-known-max-duration c = search needs
+enum-known-max-duration c = c .match6 .keys1
 
 enum-told-6 : tie.Need-enum-told-6
-enum-told-6 c = search needs
+enum-told-6 c = c .match6 .keys2
 
 returns-7 : tie.Need-returns-7
 unfolding vehicle-line

@@ -15,7 +15,7 @@ both-feasible-requires c κs =
     (q .0, (search (stop-route, q), search (stop-route, q), search (exchanged-lent, q, x), search (exchanged-planned, q, x), q .1 .5))
 
 same-length : tie.Need-same-length
-same-length c = search needs
+same-length c = c .before .before .before .before .before .exchange-stops .kept .0
 
 returns : tie.Need-returns
 returns c =

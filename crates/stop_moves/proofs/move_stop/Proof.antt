@@ -1,4 +1,5 @@
 -- `moves::move_stop` meets its contract.
+use mathlib.Core.Path.{refl}
 use borrow.Author.Needs.{needs}
 use Rattle.stop_moves.proofs.MoveLaws.{stop-position, stop-moved, stop-kept, stop-laws}
 use Rattle.stop_moves.proofs.move_stop.Statement.{statement}
@@ -8,16 +9,16 @@ place-requires : tie.Need-place-requires
 place-requires c κs = search needs
 
 enum-known-best : tie.Need-enum-known-best
-enum-known-best c = search needs
+enum-known-best c = c .match .keys1
 
 enum-told : tie.Need-enum-told
-enum-told c = search needs
+enum-told c = c .match .keys2
 
 same-length : tie.Need-same-length
-same-length c = search needs
+same-length c = refl
 
 same-length-2 : tie.Need-same-length-2
-same-length-2 c = search needs
+same-length-2 c = refl
 
 returns : tie.Need-returns
 returns c = (search stop-laws, tt)
@@ -31,10 +32,10 @@ put-in-requires c κs =
     (p .1 .lent, (stop-position _ _ _ _ (p .0) _ (c .before .before .before .before .before .before .place .ensures) _ (c .before .before .before .before .best .given .1), p .2))
 
 same-length-3 : tie.Need-same-length-3
-same-length-3 c = search needs
+same-length-3 c = c .before .before .before .before .before .before .put-in .kept .0
 
 same-length-4 : tie.Need-same-length-4
-same-length-4 c = search needs
+same-length-4 c = c .before .before .before .before .before .before .put-in .kept .1 .0
 
 returns-2 : tie.Need-returns-2
 returns-2 c =

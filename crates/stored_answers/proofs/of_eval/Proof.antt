@@ -5,13 +5,13 @@ use Rattle.stored_answers.proofs.of_eval.Statement.{statement}
 use Rattle.stored_answers.proofs.of_eval.Tie as tie
 
 enum-told : tie.Need-enum-told
-enum-told c = search needs
+enum-told c = c .match .keys1
 
 short-requires : tie.Need-short-requires
 short-requires c κs = search needs
 
 enum-known-eval : tie.Need-enum-known-eval
-enum-known-eval c = search needs
+enum-known-eval c = c .match .keys2
 
 of-route-requires : tie.Need-of-route-requires
 of-route-requires c κs = search needs

@@ -5,13 +5,13 @@ use Rattle.stored_answers.proofs.of_evaluated.Statement.{statement}
 use Rattle.stored_answers.proofs.of_evaluated.Tie as tie
 
 enum-known-answer : tie.Need-enum-known-answer
-enum-known-answer c = search needs
+enum-known-answer c = c .match .keys1
 
 of-refusal-requires : tie.Need-of-refusal-requires
 of-refusal-requires c κs = search needs
 
 enum-known-answer-2 : tie.Need-enum-known-answer-2
-enum-known-answer-2 c = search needs
+enum-known-answer-2 c = c .match .keys2
 
 of-eval-requires : tie.Need-of-eval-requires
 of-eval-requires c κs = search needs

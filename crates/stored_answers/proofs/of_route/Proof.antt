@@ -17,10 +17,10 @@ bits-of-requires-4 : tie.Need-bits-of-requires-4
 bits-of-requires-4 c κs = search needs
 
 enum-told : tie.Need-enum-told
-enum-told c = search needs
+enum-told c = c .match .keys1
 
 enum-known-rest : tie.Need-enum-known-rest
-enum-known-rest c = search needs
+enum-known-rest c = c .match .keys2
 
 bits-of-requires-5 : tie.Need-bits-of-requires-5
 bits-of-requires-5 c κs = search needs

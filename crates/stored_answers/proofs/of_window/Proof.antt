@@ -5,13 +5,13 @@ use Rattle.stored_answers.proofs.of_window.Statement.{statement}
 use Rattle.stored_answers.proofs.of_window.Tie as tie
 
 enum-told : tie.Need-enum-told
-enum-told c = search needs
+enum-told c = c .match .keys1
 
 short-requires : tie.Need-short-requires
 short-requires c κs = search needs
 
 enum-known-window : tie.Need-enum-known-window
-enum-known-window c = search needs
+enum-known-window c = c .match .keys2
 
 bits-of-requires : tie.Need-bits-of-requires
 bits-of-requires c κs = search needs

@@ -1,9 +1,8 @@
 -- `both_joined` meets its contract.
 use native.Mathlib.Omega.{arith}
-use mathlib.Core.Path.{sym}
+use mathlib.Core.Path.{sym, _∙_}
 use Rattle.route_load.proofs.FeasibleLaws.{demands-own}
 use Rattle.tail_exchange.proofs.TailLaws.{joined-heavy, joined-falls, joined-decides}
-use borrow.Author.Needs.{needs}
 use Rattle.tail_exchange.proofs.both_joined.Statement.{statement}
 use Rattle.tail_exchange.proofs.both_joined.Tie as tie
 
@@ -26,21 +25,21 @@ joined-stands-requires-2 c κs =
     (q .0, (q .1 .0, q .1 .1, q .1 .2, omega (arith, q .1 .3, x .kept .0, y .kept .0), q .1 .4, q .1 .5, q .1 .6))
 
 same-length : tie.Need-same-length
-same-length c = search needs
+same-length c = c .before .before .joined-stands2 .kept .0 ∙ c .before .before .before .before .before .before .before .joined-stands .kept .0 ∙ c .before .before .before .before .before .before .before .before .before .before .before .before .joined-within .kept .0
 
 returns : tie.Need-returns
 returns c =
     joined-decides _ _ _ _ _ _ _ _ _ _ _ _ _ _ _ _ (c .before .before .before .before .before .before .before .before .before .before .before .before .joined-within .ensures) _ (c .before .before .before .before .before .before .before .joined-stands .ensures) (c .before .before .before .before .if2 .taken) _ (c .before .before .joined-stands2 .ensures)
 
 same-length-2 : tie.Need-same-length-2
-same-length-2 c = search needs
+same-length-2 c = c .before .before .before .joined-stands .kept .0 ∙ c .before .before .before .before .before .before .before .before .joined-within .kept .0
 
 returns-2 : tie.Need-returns-2
 returns-2 c =
     joined-falls _ _ _ _ _ _ _ _ _ _ _ _ _ _ _ _ (c .before .before .before .before .before .before .before .before .joined-within .ensures) _ (c .before .before .before .joined-stands .ensures) (c .if2 .left)
 
 same-length-3 : tie.Need-same-length-3
-same-length-3 c = search needs
+same-length-3 c = c .before .before .before .joined-within .kept .0
 
 returns-3 : tie.Need-returns-3
 returns-3 c =

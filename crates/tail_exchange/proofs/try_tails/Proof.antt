@@ -1,7 +1,7 @@
 -- `try_tails` meets its contract.
+use mathlib.Core.Path.{refl, _∙_}
 use native.Mathlib.Omega.{arith}
 use Rattle.tail_exchange.proofs.TailLaws.{tails-made, tails-left}
-use borrow.Author.Needs.{needs}
 use Rattle.tail_exchange.proofs.try_tails.Statement.{statement}
 use Rattle.tail_exchange.proofs.try_tails.Tie as tie
 
@@ -15,13 +15,13 @@ exchange-tails-requires c κs =
     (q .4, (q .0, q .1, q .2, omega (arith, q .3, x .kept .0)))
 
 same-length : tie.Need-same-length
-same-length c = search needs
+same-length c = c .before .before .before .before .before .before .exchange-tails .kept .0
 
 same-length-2 : tie.Need-same-length-2
-same-length-2 c = search needs
+same-length-2 c = c .before .before .before .before .before .before .exchange-tails .kept .1 .0
 
 same-length-3 : tie.Need-same-length-3
-same-length-3 c = search needs
+same-length-3 c = c .before .before .before .before .before .before .exchange-tails .kept .1 .1 .0 ∙ c .before .before .before .before .before .before .before .before .before .before .before .before .before .both-joined .kept .0
 
 returns : tie.Need-returns
 returns c =
@@ -29,13 +29,13 @@ returns c =
     tails-made _ _ _ _ _ _ _ (q .0) (q .1) (q .2) _ (c .before .before .before .before .before .before .before .before .before .before .before .before .before .both-joined .ensures) _ _ (c .before .before .before .before .before .before .before .before .before .before .if1 .taken) (c .before .before .before .before .before .before .exchange-tails .ensures)
 
 same-length-4 : tie.Need-same-length-4
-same-length-4 c = search needs
+same-length-4 c = refl
 
 same-length-5 : tie.Need-same-length-5
-same-length-5 c = search needs
+same-length-5 c = refl
 
 same-length-6 : tie.Need-same-length-6
-same-length-6 c = search needs
+same-length-6 c = c .before .before .before .both-joined .kept .0
 
 returns-2 : tie.Need-returns-2
 returns-2 c =

@@ -6,19 +6,19 @@ use Rattle.trial_route.proofs.trial_feasible.Statement.{statement}
 use Rattle.trial_route.proofs.trial_feasible.Tie as tie
 
 enum-known-rest : tie.Need-enum-known-rest
-enum-known-rest c = search needs
+enum-known-rest c = c .match .keys1
 
 enum-told : tie.Need-enum-told
-enum-told c = search needs
+enum-told c = c .match .keys2
 
 trial-reached-requires : tie.Need-trial-reached-requires
 trial-reached-requires c κs = search needs
 
 enum-known-walked : tie.Need-enum-known-walked
-enum-known-walked c = search needs
+enum-known-walked c = c .match2 .keys1
 
 enum-told-2 : tie.Need-enum-told-2
-enum-told-2 c = search needs
+enum-told-2 c = c .match2 .keys2
 
 returns : tie.Need-returns
 returns c = search trial-feasible-laws
@@ -36,10 +36,10 @@ trial-ridden-requires : tie.Need-trial-ridden-requires
 trial-ridden-requires c κs = search needs
 
 enum-known-ridden : tie.Need-enum-known-ridden
-enum-known-ridden c = search needs
+enum-known-ridden c = c .match3 .keys1
 
 enum-told-3 : tie.Need-enum-told-3
-enum-told-3 c = search needs
+enum-told-3 c = c .match3 .keys2
 
 returns-3 : tie.Need-returns-3
 returns-3 c = search trial-feasible-laws

@@ -8,10 +8,10 @@ reach-front-requires : tie.Need-reach-front-requires
 reach-front-requires c κs = search needs
 
 enum-known-front : tie.Need-enum-known-front
-enum-known-front c = search needs
+enum-known-front c = c .match .keys1
 
 enum-told : tie.Need-enum-told
-enum-told c = search needs
+enum-told c = c .match .keys2
 
 returns : tie.Need-returns
 returns c = search trial-laws
@@ -20,10 +20,10 @@ reach-requires : tie.Need-reach-requires
 reach-requires c κs = let p = c .before .before .before .before .before .before .before .before .before .before .before .before .pre in search (needs, front-there, p)
 
 enum-known-stop : tie.Need-enum-known-stop
-enum-known-stop c = search needs
+enum-known-stop c = c .match2 .keys1
 
 enum-told-2 : tie.Need-enum-told-2
-enum-told-2 c = search needs
+enum-told-2 c = c .match2 .keys2
 
 returns-2 : tie.Need-returns-2
 returns-2 c = search trial-laws

@@ -9,10 +9,10 @@ ride-front-requires : tie.Need-ride-front-requires
 ride-front-requires c κs = search needs
 
 enum-known-front : tie.Need-enum-known-front
-enum-known-front c = search needs
+enum-known-front c = c .match .keys1
 
 enum-told : tie.Need-enum-told
-enum-told c = search needs
+enum-told c = c .match .keys2
 
 returns : tie.Need-returns
 returns c = search trial-laws
@@ -29,10 +29,10 @@ ride-all-requires c κs =
     (p .0, (search (front-there, p), search (one-stop, p), search (front-room, p)))
 
 enum-known-stop : tie.Need-enum-known-stop
-enum-known-stop c = search needs
+enum-known-stop c = c .match2 .keys1
 
 enum-told-2 : tie.Need-enum-told-2
-enum-told-2 c = search needs
+enum-told-2 c = c .match2 .keys2
 
 returns-2 : tie.Need-returns-2
 returns-2 c = search trial-laws

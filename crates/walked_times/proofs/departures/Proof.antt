@@ -32,10 +32,10 @@ leave-requires : tie.Need-leave-requires Inv-loop μ-loop
 leave-requires c κs = search leaving-needs
 
 enum-known-done : tie.Need-enum-known-done Inv-loop μ-loop
-enum-known-done c = search needs
+enum-known-done c = c .match .keys1
 
 enum-told : tie.Need-enum-told Inv-loop μ-loop
-enum-told c = search needs
+enum-told c = c .match .keys2
 
 same-length : tie.Need-same-length Inv-loop μ-loop
 same-length c = search leaving-needs

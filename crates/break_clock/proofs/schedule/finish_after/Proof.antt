@@ -5,10 +5,10 @@ use Rattle.break_clock.proofs.schedule.finish_after.Statement.{statemen
 use Rattle.break_clock.proofs.schedule.finish_after.Tie as tie
 
 enum-known-after : tie.Need-enum-known-after
-enum-known-after c = search needs
+enum-known-after c = c .match .keys1
 
 enum-told : tie.Need-enum-told
-enum-told c = search needs
+enum-told c = c .match .keys2
 
 returns : tie.Need-returns
 returns c = search needs

@@ -22,16 +22,16 @@ put-reply-requires : tie.Need-put-reply-requires
 put-reply-requires c κs = numbers-fit _ _ _ _ _ _ (c .before .before .before .before .before .before .before .before .before .before .before .before .before .reply-misfit .ensures) (c .before .before .before .before .before .before .before .before .before .before .before .before .if1 .left)
 
 same-length : tie.Need-same-length
-same-length c = search needs
+same-length c = c .before .before .before .before .before .before .before .before .before .before .eliminate .kept .0
 
 same-length-2 : tie.Need-same-length-2
-same-length-2 c = search needs
+same-length-2 c = c .before .before .before .before .before .before .before .before .before .before .eliminate .kept .1 .0
 
 same-length-3 : tie.Need-same-length-3
-same-length-3 c = search needs
+same-length-3 c = c .before .before .before .before .before .before .before .before .before .before .eliminate .kept .1 .1 .0
 
 same-length-4 : tie.Need-same-length-4
-same-length-4 c = search needs
+same-length-4 c = c .before .before .put-reply .kept .0
 
 returns-2 : tie.Need-returns-2
 returns-2 c =

@@ -21,7 +21,7 @@ put-number-requires : tie.Need-put-number-requires
 put-number-requires c κs = floats-fit _ _ _ _ _ _ (c .before .before .before .before .number-misfit .ensures) (c .before .before .before .if1 .left)
 
 same-length : tie.Need-same-length
-same-length c = search needs
+same-length c = c .before .before .put-number .kept .0
 
 returns-2 : tie.Need-returns-2
 returns-2 c = rw (← vehicle-kept _ _ _ _ _ _ _ _ _ _ (c .before .before .before .before .before .before .before .before .before .before .before .before .before .before .before .before .before .fits .capacity) _ (c .before .before .before .before .before .vehicle-of .ensures)) (answer-said _ _ _ _ _ _ _ (c .before .before .before .before .before .before .before .number-misfit .ensures) (c .before .before .before .before .before .before .if1 .left) _ _ _ _ _ (c .before .before .put-number .ensures) (c .before .before .before .before .route-distance .ensures))

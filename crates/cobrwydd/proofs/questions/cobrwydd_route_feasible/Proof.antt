@@ -21,7 +21,7 @@ put-checked-requires : tie.Need-put-checked-requires
 put-checked-requires c κs = numbers-fit _ _ _ _ _ _ (c .before .before .before .before .checked-misfit .ensures) (c .before .before .before .if1 .left)
 
 same-length : tie.Need-same-length
-same-length c = search needs
+same-length c = c .before .before .put-checked .kept .0
 
 returns-2 : tie.Need-returns-2
 returns-2 c = rw (← vehicle-kept _ _ _ _ _ _ _ _ _ _ (c .before .before .before .before .before .before .before .before .before .before .before .before .before .before .before .before .before .fits .capacity) _ (c .before .before .before .before .before .vehicle-of .ensures)) (answer-said _ _ _ _ _ _ _ (c .before .before .before .before .before .before .before .checked-misfit .ensures) (c .before .before .before .before .before .before .if1 .left) _ _ _ _ _ (c .before .before .put-checked .ensures) (c .before .before .before .before .route-feasible .ensures))

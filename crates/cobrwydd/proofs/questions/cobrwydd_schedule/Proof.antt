@@ -24,10 +24,10 @@ put-evaluated-requires : tie.Need-put-evaluated-requires
 put-evaluated-requires c κs = (floats-fit _ _ _ _ _ _ (c .before .before .before .before .before .before .evaluated-misfit .ensures) (c .before .before .before .before .before .if1 .left), numbers-fit _ _ _ _ _ _ (c .before .before .before .before .before .before .evaluated-misfit .ensures) (c .before .before .before .before .before .if1 .left))
 
 same-length : tie.Need-same-length
-same-length c = search needs
+same-length c = c .before .before .before .before .put-evaluated .kept .0
 
 same-length-2 : tie.Need-same-length-2
-same-length-2 c = search needs
+same-length-2 c = c .before .before .before .before .put-evaluated .kept .1 .0
 
 returns-2 : tie.Need-returns-2
 returns-2 c = rw (← vehicle-kept _ _ _ _ _ _ _ _ _ _ (c .before .before .before .before .before .before .before .before .before .before .before .before .before .before .before .before .before .before .before .before .before .before .fits .capacity) _ (c .before .before .before .before .before .before .before .before .before .vehicle-of .ensures), ← c .before .before .before .before .before .before .before .before .new .ensures) (answer-said _ _ _ _ _ _ _ (c .before .before .before .before .before .before .before .before .before .before .before .evaluated-misfit .ensures) (c .before .before .before .before .before .before .before .before .before .before .if1 .left) _ _ _ _ _ (c .before .before .before .before .put-evaluated .ensures) (c .before .before .before .before .before .before .before .schedule .ensures))

@@ -19,10 +19,10 @@ put-window-requires : tie.Need-put-window-requires
 put-window-requires c κs = (floats-fit _ _ _ _ _ _ (c .before .before .before .before .window-misfit .ensures) (c .before .before .before .if1 .left), numbers-fit _ _ _ _ _ _ (c .before .before .before .before .window-misfit .ensures) (c .before .before .before .if1 .left))
 
 same-length : tie.Need-same-length
-same-length c = search needs
+same-length c = c .before .before .before .before .put-window .kept .0
 
 same-length-2 : tie.Need-same-length-2
-same-length-2 c = search needs
+same-length-2 c = c .before .before .before .before .put-window .kept .1 .0
 
 returns-2 : tie.Need-returns-2
 returns-2 c = answer-said _ _ _ _ _ _ _ (c .before .before .before .before .before .before .before .before .before .window-misfit .ensures) (c .before .before .before .before .before .before .before .before .if1 .left) _ _ _ _ _ (c .before .before .before .before .put-window .ensures) (ap answered (c .before .before .before .before .before .before .before .time-window-new .ensures))

@@ -18,10 +18,10 @@ put-printed-requires : tie.Need-put-printed-requires
 put-printed-requires c κs = one-number (c .before .before .before .before .before .before .before .before .before .before .args .out .now) (c .before .before .before .before .before .before .before .before .before .before .args .written .now) [] _ (c .before .before .before .before .before .before .sheet-misfit .ensures) (c .before .before .before .before .before .if1 .left)
 
 same-length : tie.Need-same-length
-same-length c = search needs
+same-length c = c .before .before .before .before .before .before .plan-sheet .kept .0
 
 same-length-2 : tie.Need-same-length-2
-same-length-2 c = search needs
+same-length-2 c = c .before .before .put-printed .kept .0
 
 returns-2 : tie.Need-returns-2
 returns-2 c =

@@ -17,10 +17,10 @@ departure-requires : tie.Need-departure-requires
 departure-requires c κs = search needs
 
 enum-told : tie.Need-enum-told
-enum-told c = search needs
+enum-told c = c .match .keys1
 
 enum-known-left : tie.Need-enum-known-left
-enum-known-left c = search needs
+enum-known-left c = c .match .keys2
 
 returns : tie.Need-returns
 returns c = search reach-laws

@@ -5,10 +5,10 @@ use Rattle.evaluation.proofs.check.route_feasible.Statement.{statement}
 use Rattle.evaluation.proofs.check.route_feasible.Tie as tie
 
 enum-known-rest : tie.Need-enum-known-rest
-enum-known-rest c = search needs
+enum-known-rest c = c .match .keys1
 
 enum-told : tie.Need-enum-told
-enum-told c = search needs
+enum-told c = c .match .keys2
 
 new-requires : tie.Need-new-requires
 new-requires c κs = search needs
@@ -17,10 +17,10 @@ reach-all-requires : tie.Need-reach-all-requires
 reach-all-requires c κs = search (needs, reach-ends)
 
 enum-known-walked : tie.Need-enum-known-walked
-enum-known-walked c = search needs
+enum-known-walked c = c .match2 .keys1
 
 enum-told-2 : tie.Need-enum-told-2
-enum-told-2 c = search needs
+enum-told-2 c = c .match2 .keys2
 
 returns : tie.Need-returns
 returns c = search feasible-laws

@@ -5,10 +5,10 @@ use Rattle.evaluation.proofs.eval.limited.Statement.{statement}
 use Rattle.evaluation.proofs.eval.limited.Tie as tie
 
 enum-known-e : tie.Need-enum-known-e
-enum-known-e c = search needs
+enum-known-e c = c .match .keys1
 
 enum-told : tie.Need-enum-told
-enum-told c = search needs
+enum-told c = c .match .keys2
 
 returns : tie.Need-returns
 returns c = search needs

@@ -5,19 +5,19 @@ use Rattle.labels.proofs.Label.earlier.Statement.{statement}
 use Rattle.labels.proofs.Label.earlier.Tie as tie
 
 enum-known-a : tie.Need-enum-known-a
-enum-known-a c = search needs
+enum-known-a c = c .match .keys1
 
 enum-told : tie.Need-enum-told
-enum-told c = search needs
+enum-told c = c .match .keys2
 
 returns : tie.Need-returns
 returns c = search earlier-laws
 
 enum-known-b : tie.Need-enum-known-b
-enum-known-b c = search needs
+enum-known-b c = c .match2 .keys1
 
 enum-told-2 : tie.Need-enum-told-2
-enum-told-2 c = search needs
+enum-told-2 c = c .match2 .keys2
 
 returns-2 : tie.Need-returns-2
 returns-2 c = search earlier-laws

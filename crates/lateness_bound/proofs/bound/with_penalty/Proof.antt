@@ -5,10 +5,10 @@ use Rattle.lateness_bound.proofs.bound.with_penalty.Statement.{statemen
 use Rattle.lateness_bound.proofs.bound.with_penalty.Tie as tie
 
 enum-told : tie.Need-enum-told
-enum-told c = search needs
+enum-told c = c .match .keys1
 
 enum-known-penalty : tie.Need-enum-known-penalty
-enum-known-penalty c = search needs
+enum-known-penalty c = c .match .keys2
 
 max-requires : tie.Need-max-requires
 max-requires c κs = search needs

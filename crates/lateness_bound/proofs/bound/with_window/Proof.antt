@@ -5,10 +5,10 @@ use Rattle.lateness_bound.proofs.bound.with_window.Statement.{statement
 use Rattle.lateness_bound.proofs.bound.with_window.Tie as tie
 
 enum-told : tie.Need-enum-told
-enum-told c = search needs
+enum-told c = c .match .keys1
 
 enum-known-window : tie.Need-enum-known-window
-enum-known-window c = search needs
+enum-known-window c = c .match .keys2
 
 max-requires : tie.Need-max-requires
 max-requires c κs = search needs

@@ -5,10 +5,10 @@ use Rattle.models.proofs.limits.within.Tie as tie
 use Rattle.models.proofs.limits.within.Statement.{statement}
 
 enum-told : tie.Need-enum-told
-enum-told c = search needs
+enum-told c = c .match .keys1
 
 enum-known-limit : tie.Need-enum-known-limit
-enum-known-limit c = search needs
+enum-known-limit c = c .match .keys2
 
 returns : tie.Need-returns
 returns c = search needs

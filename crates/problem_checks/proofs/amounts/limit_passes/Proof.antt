@@ -5,10 +5,10 @@ use Rattle.problem_checks.proofs.amounts.limit_passes.Statement.{statem
 use Rattle.problem_checks.proofs.amounts.limit_passes.Tie as tie
 
 enum-told : tie.Need-enum-told
-enum-told c = search needs
+enum-told c = c .match .keys1
 
 enum-known-limit : tie.Need-enum-known-limit
-enum-known-limit c = search needs
+enum-known-limit c = c .match .keys2
 
 is-amount-requires : tie.Need-is-amount-requires
 is-amount-requires c κs = search needs

@@ -5,10 +5,10 @@ use Rattle.problem_checks.proofs.amounts.rest_passes.Statement.{stateme
 use Rattle.problem_checks.proofs.amounts.rest_passes.Tie as tie
 
 enum-told : tie.Need-enum-told
-enum-told c = search needs
+enum-told c = c .match .keys1
 
 enum-known-rest : tie.Need-enum-known-rest
-enum-known-rest c = search needs
+enum-known-rest c = c .match .keys2
 
 break-passes-requires : tie.Need-break-passes-requires
 break-passes-requires c κs = search needs

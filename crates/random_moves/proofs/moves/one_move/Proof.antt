@@ -28,13 +28,13 @@ move-between-requires c κs =
     (q .0, (q .1 .0, q .1 .1, pair-drawn _ _ _ _ _ _ _ (c .before .before .before .before .before .draw .ensures) (c .before .before .before .before .draw2 .ensures) (c .before .before .before .other-than .ensures) (q .1 .2), q .1 .3))
 
 same-length : tie.Need-same-length
-same-length c = search needs
+same-length c = c .before .before .before .before .before .before .move-between .kept .0
 
 same-length-2 : tie.Need-same-length-2
-same-length-2 c = search needs
+same-length-2 c = c .before .before .before .before .before .before .move-between .kept .1 .0
 
 same-length-3 : tie.Need-same-length-3
-same-length-3 c = search needs
+same-length-3 c = c .before .before .before .before .before .before .move-between .kept .1 .1 .0
 
 returns : tie.Need-returns
 returns c =

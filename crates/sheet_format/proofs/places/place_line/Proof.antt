@@ -10,10 +10,10 @@ signed-before-requires : tie.Need-signed-before-requires
 signed-before-requires c κs = search needs
 
 enum-known-demand : tie.Need-enum-known-demand
-enum-known-demand c = search needs
+enum-known-demand c = c .match .keys1
 
 enum-told : tie.Need-enum-told
-enum-told c = search needs
+enum-told c = c .match .keys2
 
 returns : tie.Need-returns
 unfolding place
@@ -23,10 +23,10 @@ number-before-requires : tie.Need-number-before-requires
 number-before-requires c κs = search needs
 
 enum-known-service : tie.Need-enum-known-service
-enum-known-service c = search needs
+enum-known-service c = c .match2 .keys1
 
 enum-told-2 : tie.Need-enum-told-2
-enum-told-2 c = search needs
+enum-told-2 c = c .match2 .keys2
 
 returns-2 : tie.Need-returns-2
 unfolding place
@@ -36,10 +36,10 @@ window-before-requires : tie.Need-window-before-requires
 window-before-requires c κs = search needs
 
 enum-known-time-window : tie.Need-enum-known-time-window
-enum-known-time-window c = search needs
+enum-known-time-window c = c .match3 .keys1
 
 enum-told-3 : tie.Need-enum-told-3
-enum-told-3 c = search needs
+enum-told-3 c = c .match3 .keys2
 
 returns-3 : tie.Need-returns-3
 unfolding place
@@ -49,10 +49,10 @@ penalty-requires : tie.Need-penalty-requires
 penalty-requires c κs = search needs
 
 enum-known-lateness-penalty : tie.Need-enum-known-lateness-penalty
-enum-known-lateness-penalty c = search needs
+enum-known-lateness-penalty c = c .match4 .keys1
 
 enum-told-4 : tie.Need-enum-told-4
-enum-told-4 c = search needs
+enum-told-4 c = c .match4 .keys2
 
 returns-4 : tie.Need-returns-4
 unfolding place

@@ -17,10 +17,10 @@ byte-requires : tie.Need-byte-requires
 byte-requires c κs = search needs
 
 enum-known-i : tie.Need-enum-known-i
-enum-known-i c = search needs
+enum-known-i c = c .match .keys1
 
 enum-told : tie.Need-enum-told
-enum-told c = search needs
+enum-told c = c .match .keys2
 
 returns : tie.Need-returns
 unfolding window
@@ -30,10 +30,10 @@ byte-requires-2 : tie.Need-byte-requires-2
 byte-requires-2 c κs = search needs
 
 enum-known-j : tie.Need-enum-known-j
-enum-known-j c = search needs
+enum-known-j c = c .match2 .keys1
 
 enum-told-2 : tie.Need-enum-told-2
-enum-told-2 c = search needs
+enum-told-2 c = c .match2 .keys2
 
 returns-2 : tie.Need-returns-2
 unfolding window
@@ -47,10 +47,10 @@ number-before-requires : tie.Need-number-before-requires
 number-before-requires c κs = search needs
 
 enum-known-ready : tie.Need-enum-known-ready
-enum-known-ready c = search needs
+enum-known-ready c = c .match3 .keys1
 
 enum-told-3 : tie.Need-enum-told-3
-enum-told-3 c = search needs
+enum-told-3 c = c .match3 .keys2
 
 returns-4 : tie.Need-returns-4
 unfolding window
@@ -60,10 +60,10 @@ number-requires : tie.Need-number-requires
 number-requires c κs = search needs
 
 enum-known-due : tie.Need-enum-known-due
-enum-known-due c = search needs
+enum-known-due c = c .match4 .keys1
 
 enum-told-4 : tie.Need-enum-told-4
-enum-told-4 c = search needs
+enum-told-4 c = c .match4 .keys2
 
 returns-5 : tie.Need-returns-5
 unfolding window

@@ -9,10 +9,10 @@ window-requires : tie.Need-window-requires
 window-requires c κs = search needs
 
 enum-known-w : tie.Need-enum-known-w
-enum-known-w c = search needs
+enum-known-w c = c .match .keys1
 
 enum-told : tie.Need-enum-told
-enum-told c = search needs
+enum-told c = c .match .keys2
 
 returns : tie.Need-returns
 returns c = search (readings, lines)
@@ -21,10 +21,10 @@ byte-requires : tie.Need-byte-requires
 byte-requires c κs = search needs
 
 enum-known-j : tie.Need-enum-known-j
-enum-known-j c = search needs
+enum-known-j c = c .match2 .keys1
 
 enum-told-2 : tie.Need-enum-told-2
-enum-told-2 c = search needs
+enum-told-2 c = c .match2 .keys2
 
 returns-2 : tie.Need-returns-2
 returns-2 c = search (readings, lines)

@@ -37,10 +37,10 @@ place-row-requires c κs =
     room-now _ _ _ (l .i + 1) (t .before .before .before .before .before .before .before .before .pre) (l .inv .2) (omega (arith, l .inv .1, t .loop-test .taken))
 
 enum-known-j : tie.Need-enum-known-j Inv-loop μ-loop
-enum-known-j c = search needs
+enum-known-j c = c .match .keys1
 
 enum-told : tie.Need-enum-told Inv-loop μ-loop
-enum-told c = search needs
+enum-told c = c .match .keys2
 
 same-length : tie.Need-same-length Inv-loop μ-loop
 same-length c =

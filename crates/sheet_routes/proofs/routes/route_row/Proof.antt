@@ -10,10 +10,10 @@ number-requires : tie.Need-number-requires
 number-requires c κs = search needs
 
 enum-known-v : tie.Need-enum-known-v
-enum-known-v c = search needs
+enum-known-v c = c .match .keys1
 
 enum-told : tie.Need-enum-told
-enum-told c = search needs
+enum-told c = c .match .keys2
 
 returns : tie.Need-returns
 returns c =
@@ -39,10 +39,10 @@ byte-requires : tie.Need-byte-requires
 byte-requires c κs = search needs
 
 enum-known-j : tie.Need-enum-known-j
-enum-known-j c = search needs
+enum-known-j c = c .match2 .keys1
 
 enum-told-2 : tie.Need-enum-told-2
-enum-told-2 c = search needs
+enum-told-2 c = c .match2 .keys2
 
 returns-3 : tie.Need-returns-3
 returns-3 c =
@@ -55,13 +55,13 @@ stop-row-requires : tie.Need-stop-row-requires
 stop-row-requires c κs = search needs
 
 enum-known-x : tie.Need-enum-known-x
-enum-known-x c = search needs
+enum-known-x c = c .match3 .keys1
 
 enum-told-3 : tie.Need-enum-told-3
-enum-told-3 c = search needs
+enum-told-3 c = c .match3 .keys2
 
 same-length : tie.Need-same-length
-same-length c = search needs
+same-length c = c .before .before .before .before .stop-row .kept .0
 
 returns-4 : tie.Need-returns-4
 returns-4 c =
@@ -72,7 +72,7 @@ returns-4 c =
     no-stops _ _ (a .used) (a .stops .now) _ _ (number-at _ _ _ _ (v .v .given .1) (v .before .before .number .ensures .0)) (g .before .before .if1 .left) _ (gap-at _ _ _ (v .v .given .0 .0) _ (g .before .ending .ensures) (g .byte .ensures) _ (r .before .before .before .j .given .1)) (filled-bad _ _ _ (c .enum-told3 .given .1) (r .stop-row .ensures))
 
 same-length-2 : tie.Need-same-length-2
-same-length-2 c = search needs
+same-length-2 c = c .before .before .before .before .before .stop-row .kept .0
 
 returns-5 : tie.Need-returns-5
 returns-5 c =

@@ -28,7 +28,7 @@ route-row-requires : tie.Need-route-row-requires Inv-loop μ-loop
 route-row-requires c κs = search needs
 
 enum-known-row : tie.Need-enum-known-row Inv-loop μ-loop
-enum-known-row c = search needs
+enum-known-row c = c .match .keys1
 
 same-length : tie.Need-same-length Inv-loop μ-loop
 same-length c = search needs
@@ -44,7 +44,7 @@ returns c =
     (routes-fault _ _ _ _ (l .r) (l .used) (l .a) (l .left) (l .inv .0) (t .loop-test .taken) _ (route-refused (l .used) _ _ _ (r .route-row .ensures) _ (c .before .row .given .1)), tt)
 
 enum-known-row-2 : tie.Need-enum-known-row-2 Inv-loop μ-loop
-enum-known-row-2 c = search needs
+enum-known-row-2 c = c .match .keys2
 
 cast-lengths : tie.Need-cast-lengths Inv-loop μ-loop
 cast-lengths c =

@@ -15,10 +15,10 @@ heading-requires : tie.Need-heading-requires
 heading-requires c κs = search needs
 
 enum-known-h : tie.Need-enum-known-h
-enum-known-h c = search needs
+enum-known-h c = c .match .keys1
 
 enum-known-h-2 : tie.Need-enum-known-h-2
-enum-known-h-2 c = search needs
+enum-known-h-2 c = c .match .keys2
 
 route-rows-requires : tie.Need-route-rows-requires
 route-rows-requires c κs =
@@ -32,10 +32,10 @@ unfolding routes
 returns c = (search (readings, sections), tt)
 
 same-length : tie.Need-same-length
-same-length c = search needs
+same-length c = c .before .before .before .before .route-rows .kept .0
 
 same-length-2 : tie.Need-same-length-2
-same-length-2 c = search needs
+same-length-2 c = c .before .before .before .before .route-rows .kept .1 .0
 
 returns-2 : tie.Need-returns-2
 unfolding routes

@@ -30,10 +30,10 @@ number-before-requires : tie.Need-number-before-requires Inv-loop μ-loop
 number-before-requires c κs = search needs
 
 enum-known-v : tie.Need-enum-known-v Inv-loop μ-loop
-enum-known-v c = search needs
+enum-known-v c = c .match .keys1
 
 enum-told : tie.Need-enum-told Inv-loop μ-loop
-enum-told c = search needs
+enum-told c = c .match .keys2
 
 same-length : tie.Need-same-length Inv-loop μ-loop
 same-length c = search needs

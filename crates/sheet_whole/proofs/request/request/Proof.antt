@@ -14,31 +14,31 @@ draws-requires : tie.Need-draws-requires
 draws-requires c κs = search needs
 
 enum-known-d : tie.Need-enum-known-d
-enum-known-d c = search needs
+enum-known-d c = c .match .keys1
 
 enum-known-d-2 : tie.Need-enum-known-d-2
-enum-known-d-2 c = search needs
+enum-known-d-2 c = c .match .keys2
 
 routes-requires : tie.Need-routes-requires
 routes-requires c κs = search needs
 
 enum-known-q : tie.Need-enum-known-q
-enum-known-q c = search needs
+enum-known-q c = c .match2 .keys1
 
 enum-known-q-2 : tie.Need-enum-known-q-2
-enum-known-q-2 c = search needs
+enum-known-q-2 c = c .match2 .keys2
 
 last-run-requires : tie.Need-last-run-requires
 last-run-requires c κs = search needs
 
 enum-known-r : tie.Need-enum-known-r
-enum-known-r c = search needs
+enum-known-r c = c .match3 .keys1
 
 enum-known-r-2 : tie.Need-enum-known-r-2
-enum-known-r-2 c = search needs
+enum-known-r-2 c = c .match3 .keys2
 
 same-length : tie.Need-same-length
-same-length c = search needs
+same-length c = c .before .before .before .before .before .draws .kept .0
 
 returns : tie.Need-returns
 returns c =
@@ -47,13 +47,13 @@ returns c =
     (no-draws _ _ _ (told (filled-count _) (b1 .d .given .1) (b5 .draws .ensures .0)), tt)
 
 same-length-2 : tie.Need-same-length-2
-same-length-2 c = search needs
+same-length-2 c = c .before .before .before .before .before .before .before .routes .kept .0
 
 same-length-3 : tie.Need-same-length-3
-same-length-3 c = search needs
+same-length-3 c = c .before .before .before .before .before .before .before .routes .kept .1 .0
 
 same-length-4 : tie.Need-same-length-4
-same-length-4 c = search needs
+same-length-4 c = c .before .before .before .before .before .before .before .before .before .before .before .before .before .before .before .draws .kept .0
 
 returns-2 : tie.Need-returns-2
 returns-2 c =
@@ -64,13 +64,13 @@ returns-2 c =
     (no-routes _ _ _ _ (told (filled-count _) (b11 .d2 .given .1) (b15 .draws .ensures .0)) _ (told (filled-plan _ _) (b1 .q .given .1) (b7 .routes .ensures .0)), tt)
 
 same-length-5 : tie.Need-same-length-5
-same-length-5 c = search needs
+same-length-5 c = c .before .before .before .before .before .before .before .before .before .before .before .routes .kept .0
 
 same-length-6 : tie.Need-same-length-6
-same-length-6 c = search needs
+same-length-6 c = c .before .before .before .before .before .before .before .before .before .before .before .routes .kept .1 .0
 
 same-length-7 : tie.Need-same-length-7
-same-length-7 c = search needs
+same-length-7 c = c .before .before .before .before .before .before .before .before .before .before .before .before .before .before .before .before .before .before .before .draws .kept .0
 
 returns-3 : tie.Need-returns-3
 returns-3 c =
@@ -83,13 +83,13 @@ returns-3 c =
     (no-run _ _ _ _ (told (filled-count _) (b15 .d2 .given .1) (b19 .draws .ensures .0)) _ _ (told (filled-plan _ _) (b5 .q2 .given .1) (b11 .routes .ensures .0)) _ (told told-run (b1 .r .given .1) (b3 .last-run .ensures)), tt)
 
 same-length-8 : tie.Need-same-length-8
-same-length-8 c = search needs
+same-length-8 c = c .before .before .before .before .before .before .before .before .before .before .before .routes .kept .0
 
 same-length-9 : tie.Need-same-length-9
-same-length-9 c = search needs
+same-length-9 c = c .before .before .before .before .before .before .before .before .before .before .before .routes .kept .1 .0
 
 same-length-10 : tie.Need-same-length-10
-same-length-10 c = search needs
+same-length-10 c = c .before .before .before .before .before .before .before .before .before .before .before .before .before .before .before .before .before .before .before .draws .kept .0
 
 returns-4 : tie.Need-returns-4
 returns-4 c =

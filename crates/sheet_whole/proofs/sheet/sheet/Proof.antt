@@ -16,10 +16,10 @@ problem-requires : tie.Need-problem-requires
 problem-requires c κs = search needs
 
 enum-known-p : tie.Need-enum-known-p
-enum-known-p c = search needs
+enum-known-p c = c .match .keys1
 
 enum-known-p-2 : tie.Need-enum-known-p-2
-enum-known-p-2 c = search needs
+enum-known-p-2 c = c .match .keys2
 
 request-requires : tie.Need-request-requires
 request-requires c κs =
@@ -27,10 +27,10 @@ request-requires c κs =
     b42 .pre .0
 
 enum-known-q : tie.Need-enum-known-q
-enum-known-q c = search needs
+enum-known-q c = c .match2 .keys1
 
 enum-known-q-2 : tie.Need-enum-known-q-2
-enum-known-q-2 c = search needs
+enum-known-q-2 c = c .match2 .keys2
 
 same-length : tie.Need-same-length
 same-length c = c .before .before .before .before .before .before .before .before .before .before .before .before .before .before .before .before .before .before .problem .kept .0

@@ -8,10 +8,10 @@ travel-time-requires : tie.Need-travel-time-requires
 travel-time-requires c κs = search needs
 
 enum-known-before : tie.Need-enum-known-before
-enum-known-before c = search needs
+enum-known-before c = c .match .keys1
 
 enum-told : tie.Need-enum-told
-enum-told c = search needs
+enum-told c = c .match .keys2
 
 finish-after-requires : tie.Need-finish-after-requires
 finish-after-requires c κs = search needs
