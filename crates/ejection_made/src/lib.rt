@@ -20,7 +20,7 @@ fn replace(lengths: &mut [u16], stops: &mut [u16], k: usize, i: usize, pos: usiz
 }
 
 // One stop leaves.
-fn make_one(
+pub fn make_one(
     lengths: &mut [u16],
     stops: &mut [u16],
     pool: &mut [u16],
@@ -38,7 +38,7 @@ fn make_one(
 }
 
 // Two stops leave, and the later of them is on top of the pool.
-fn make_two(
+pub fn make_two(
     lengths: &mut [u16],
     stops: &mut [u16],
     pool: &mut [u16],
@@ -55,26 +55,4 @@ fn make_two(
     let x = replace(lengths, stops, e.route, e.first, e.pos, c);
     pool[count] = x;
     pool[count + 1] = y;
-}
-
-// The ejection is made for c. Returns how many the pool has then.
-pub fn make_room(
-    lengths: &mut [u16],
-    stops: &mut [u16],
-    pool: &mut [u16],
-    count: usize,
-    e: Ejection,
-    c: u16,
-) -> usize
-    requires { ⌜ Lent (now lengths) (now stops) ⌝ }
-    requires { ⌜ Inside (split (now lengths) (now stops)) e × (count + 1 < length (now pool)) ⌝ }
-    ensures { λ r. ⌜ Made (split (now (lengths .entry)) (now (stops .entry))) (total (now (lengths .entry)) + count + 1) (stack (now (pool .entry)) count) c e
-        (now (lengths .exit)) (now (stops .exit)) (now (pool .exit)) r ⌝ }
-{
-    if e.first < e.second {
-        make_two(lengths, stops, pool, count, e, c);
-        return count + 2;
-    }
-    make_one(lengths, stops, pool, count, e, c);
-    count + 1
 }

@@ -12,8 +12,8 @@ ghost use Rattle.emptied_route.specs.Attempts.{Attempted, emptied, fewer, Left}
 use emptied_route::empty_route;
 use float_functions::is_finite;
 use models::vehicle::Vehicle;
-use route_removal::restore;
-use route_removal::save;
+use plan_copy::restore;
+use plan_copy::save;
 use route_saving::saved_by;
 
 // Route r goes and its stops find other places, where that gains: else both slices are put back from the work cells.

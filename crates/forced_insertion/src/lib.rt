@@ -16,9 +16,9 @@ ghost use Rattle.ejection_pool.specs.Running.{Forcing, is-there, put-best, one-
 ghost use Rattle.forced_insertion.specs.Turned.{as-turn};
 use cheapest_insertion::cheapest;
 use ejection::Best as Ejected;
-use ejection_made::make_room;
 use ejection_search::eject;
 use local_search::rounds::Counts;
+use made_room::make_room;
 use models::vehicle::Vehicle;
 use random_moves::perturb;
 use route_cost::Best;

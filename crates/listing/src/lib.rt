@@ -1,3 +1,3 @@
 // What a listing is, how long it can be, and texts that are written into a slice piece by piece.
-// This crate has no code: its definitions are in specs/, its laws in proofs/; `listing_numbers`, `listing_lines`, `listing_totals` and
-// `listing_routes` write.
+// This crate has no code: its definitions are in specs/, its laws in proofs/; `listing_numbers`, `listing_lines`, `listing_totals`, `listing_routes` and
+// `listing_whole` write.

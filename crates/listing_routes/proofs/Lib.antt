@@ -1,2 +1,2 @@
--- the lines of routes, and a listing as a whole
+-- the lines of routes
 pub mod LineLaws

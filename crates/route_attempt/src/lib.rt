@@ -13,9 +13,9 @@ ghost use Rattle.route_without.specs.Attempting.{Attempting};
 ghost use Rattle.route_attempt.specs.Leaves.{Leaves};
 use local_search::rounds::Counts;
 use models::vehicle::Vehicle;
+use plan_copy::restore;
+use plan_copy::save;
 use pool_attempt::Attempted;
-use route_removal::restore;
-use route_removal::save;
 use route_without::try_without;
 
 // The attempt at route r of a plan that costs `before`. Where the plan is kept both slices are as they were; the first work cells hold them meanwhile.

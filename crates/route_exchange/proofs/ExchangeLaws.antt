@@ -1,4 +1,4 @@
--- Two stops or two tails exchanged in the two slices, in the form that the proofs of the code want. Assumes nothing.
+-- Two tails exchanged in the two slices, in the form that the proofs of the code want. Assumes nothing.
 use Prim.Native.Nat.{ℕ, _+_, _-_, _≤_, _<_}
 use mathlib.Core.Path.{_≡_}
 use mathlib.Core.List.{List}
@@ -6,18 +6,13 @@ use native.Mathlib.Omega.{arith}
 use lib.ListN.{length, getD, set}
 use mir.Syntax.{w16, w64}
 use mir.Val.{Fits}
-use Rattle.laws.specs.Exchanges.{swap, swap-parts}
-use Rattle.plan.specs.Plan.{Plan, Holds, Lent, Has-position, Has-stop, split, total, offset, exchange-stops, exchange-tails}
-use Rattle.plan.specs.Slices.{route-within, route-before, position-within, position-route, stop-within, stop-route}
-use Rattle.plan.specs.Exchanges.{exchange-stops-slices, exchange-tails-slices, exchange-tails-comm}
+use Rattle.laws.specs.Exchanges.{swap-parts}
+use Rattle.plan.specs.Plan.{Plan, Holds, Lent, Has-position, split, total, offset, exchange-tails}
+use Rattle.plan.specs.Slices.{route-within, route-before, position-within, position-route}
+use Rattle.plan.specs.Exchanges.{exchange-tails-slices, exchange-tails-comm}
 use Rattle.plan.proofs.PlanLaws.{position-upto, position-fits, position-length-fits, end-fits}
 
 -- ---- two routes a and b, and what `offset` says of them
-
-pub exchange-stops-done : (ls s : List ℕ) (a i b j p q : ℕ) {s₁ : List ℕ} → Lent ls s → p ≡ offset ls a → q ≡ offset ls b → (a ≡ b → ⊥)
-    → Has-stop (split ls s) a i → Has-stop (split ls s) b j → s₁ ≡ swap (p + i) (q + j) s → split ls s₁ ≡ exchange-stops a i b j (split ls s)
-exchange-stops-done ls s a i b j p q l ep eq d h k e =
-    rw (e, ep, eq) (exchange-stops-slices ls s a i b j d (stop-route ls s a i h) (stop-route ls s b j k) (stop-within ls s l a i h) (stop-within ls s l b j k) (l .inside))
 
 -- a before b
 module _ (ls s : List ℕ) (a i b j : ℕ) (l : Lent ls s) (h : a < b) (f : Has-position (split ls s) a i) (g : Has-position (split ls s) b j) where

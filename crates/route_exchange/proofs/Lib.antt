@@ -1,3 +1,3 @@
 -- Laws that this crate's proofs cite.
--- two stops or two tails exchanged
+-- two tails exchanged
 pub mod ExchangeLaws

@@ -1,3 +1,3 @@
 -- Laws that this crate's proofs cite.
--- a route taken out, empty routes dropped, and the plan kept in work cells
+-- a route taken out, and empty routes dropped
 pub mod RemovalLaws

@@ -1,19 +1,17 @@
--- A route taken out, empty routes dropped, and the plan kept in work cells and put back, in the form that the proofs of the code want.
--- Assumes nothing.
+-- A route taken out, and empty routes dropped, in the form that the proofs of the code want. Assumes nothing.
 use Prim.Native.Nat.{ℕ, zero, suc, _+_, _-_, _≤_, _<_, zero-le}
 use mathlib.Core.Path.{_≡_, refl, ap, sym, _∙_}
 use mathlib.Core.Bool.{not}
-use mathlib.Core.List.{List, [], _∷_, _++_, append-nil, append-assoc}
-use native.Mathlib.Nat.{zero-add}
+use mathlib.Core.List.{List, [], _∷_, _++_, append-nil}
 use native.Mathlib.Numerals.{add-one}
 use native.Mathlib.Omega.{arith}
 use lib.ListN.{length, take, drop, getD, set, replicate, length-set, length-drop, drop-of-length-le}
-use lib.Seq.{take-length, take-all, take-suc, drop-cons, set-at, take-set-le, take-suc-set, drop-set-lt, length-take-le, paste, take-at, drop-at, drop-drop, getD-drop}
+use lib.Seq.{take-length, take-all, take-suc, drop-cons, set-at, take-set-le, take-suc-set, drop-set-lt, length-take-le, drop-drop, getD-drop}
 use lib.Dec.{eqb, eqb·suc-zero}
 use borrow.Author.Tests.{eq-eqb, ne-eqb}
 use Rattle.laws.specs.Edits.{erase, cut, cut-one, length-erase}
 use Rattle.laws.specs.Keeps.{keep, keep-append}
-use Rattle.plan.specs.Plan.{Holds, Lent, split, total, offset, padded, saved, drop-zero}
+use Rattle.plan.specs.Plan.{Holds, Lent, split, total, offset, padded, drop-zero}
 use Rattle.plan.specs.Slices.{offset-all}
 use Rattle.plan.specs.Routes.{erase-slices}
 
@@ -117,14 +115,3 @@ module _ (ls₀ : List ℕ) where
           rw (e, n, drop-of-length-le (drop r ls) {i = length ls - r} (omega arith), append-nil, all-kept)
 
 pub ruleset keeping-laws = (keeping-none, keeping-more, keeping-count, keeping-rest)
-
--- ---- `save` and `restore`
-
-pub saved-done : (ls s w : List ℕ) {w₁ w₂ : List ℕ} → length ls + length s ≤ length w → w₁ ≡ paste w 0 (drop 0 ls) (length ls)
-    → w₂ ≡ paste w₁ (length ls) (drop 0 s) (length s) → w₂ ≡ saved ls s w
-saved-done ls s w h e f =
-    rw (f, e, take-length s, take-length ls, zero-add (length ls), take-at ls (drop (length ls) w) (length ls) refl)
-    (rw (← drop-drop (length s) (length ls) (ls ++ drop (length ls) w), drop-at ls (drop (length ls) w) (length ls) refl, drop-drop (length s) (length ls) w) (append-assoc ls s (drop (length ls + length s) w)))
-
-pub restored : (xs w : List ℕ) {xs₁ : List ℕ} (from : ℕ) → xs₁ ≡ paste xs 0 (drop from w) (length xs) → xs₁ ≡ take (length xs) (drop from w)
-restored xs w from e = e ∙ rw (zero-add (length xs), drop-of-length-le xs {i = length xs} (omega arith)) (append-nil (take (length xs) (drop from w)))

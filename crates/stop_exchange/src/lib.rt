@@ -7,8 +7,8 @@ ghost use Rattle.plan.specs.Plan.{Lent, Has-stop, split};
 ghost use Rattle.local_search.specs.Planned.{Planned};
 ghost use Rattle.perturbation.specs.Perturb.{try-exchange};
 use crate::check::both_feasible;
+use exchanged_stops::exchange_stops;
 use models::vehicle::Vehicle;
-use route_exchange::exchange_stops;
 
 pub mod check;
 

@@ -2,9 +2,9 @@
 use mathlib.Core.Path.{sym, _∙_}
 use lib.Seq.{length-take-le}
 use Rattle.listing.specs.Listing.{of-listing}
-use Rattle.listing_routes.proofs.LineLaws.{taken-lent, taken-all, first-room, routes-room, last-room, listing-written}
-use Rattle.listing_routes.proofs.put_listing.Statement.{statement}
-use Rattle.listing_routes.proofs.put_listing.Tie as tie
+use Rattle.listing_whole.proofs.WholeLaws.{taken-lent, taken-all, first-room, routes-room, last-room, listing-written}
+use Rattle.listing_whole.proofs.put_listing.Statement.{statement}
+use Rattle.listing_whole.proofs.put_listing.Tie as tie
 
 put-first-line-requires : tie.Need-put-first-line-requires
 put-first-line-requires c κs =

@@ -1,9 +1,9 @@
 -- `exchange_stops` meets its contract.
 use borrow.Author.Needs.{needs}
 use Rattle.plan.proofs.PlanLaws.{place-laws}
-use Rattle.route_exchange.proofs.ExchangeLaws.{exchange-stops-done}
-use Rattle.route_exchange.proofs.exchange_stops.Tie as tie
-use Rattle.route_exchange.proofs.exchange_stops.Statement.{statement}
+use Rattle.exchanged_stops.proofs.ExchangeLaws.{exchange-stops-done}
+use Rattle.exchanged_stops.proofs.exchange_stops.Tie as tie
+use Rattle.exchanged_stops.proofs.exchange_stops.Statement.{statement}
 
 offset-requires : tie.Need-offset-requires
 offset-requires c κs = search (needs, place-laws)

@@ -1,9 +1,9 @@
 -- `save` meets its contract.
 use mathlib.Core.Path.{_∙_}
 use borrow.Author.Needs.{needs}
-use Rattle.route_removal.proofs.RemovalLaws.{saved-done}
-use Rattle.route_removal.proofs.save.Tie as tie
-use Rattle.route_removal.proofs.save.Statement.{statement}
+use Rattle.plan_copy.proofs.CopyLaws.{saved-done}
+use Rattle.plan_copy.proofs.save.Tie as tie
+use Rattle.plan_copy.proofs.save.Statement.{statement}
 
 copy-part-requires : tie.Need-copy-part-requires
 copy-part-requires c κs = search needs

@@ -1,8 +1,8 @@
 -- `restore` meets its contract.
 use borrow.Author.Needs.{needs}
-use Rattle.route_removal.proofs.RemovalLaws.{restored}
-use Rattle.route_removal.proofs.restore.Tie as tie
-use Rattle.route_removal.proofs.restore.Statement.{statement}
+use Rattle.plan_copy.proofs.CopyLaws.{restored}
+use Rattle.plan_copy.proofs.restore.Tie as tie
+use Rattle.plan_copy.proofs.restore.Statement.{statement}
 
 copy-part-requires : tie.Need-copy-part-requires
 copy-part-requires c κs = search needs

@@ -1,0 +1,3 @@
+-- Laws that this crate's proof cites.
+-- two stops exchanged
+pub mod ExchangeLaws

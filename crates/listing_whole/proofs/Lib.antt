@@ -1,0 +1,2 @@
+-- a listing as a whole
+pub mod WholeLaws
