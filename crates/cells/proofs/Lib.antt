@@ -1,3 +1,3 @@
 -- Laws that this crate's proofs cite.
--- the loops over lent cells, and a lent part put back
+-- the loops over lent cells
 pub mod CellLaws

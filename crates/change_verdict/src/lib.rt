@@ -9,10 +9,10 @@ use eliminate_call::eliminate;
 use minimise_call::minimise;
 use models::vehicle::Vehicle;
 use planner::calls::Replied;
+use same_answers::same_plan;
+use same_answers::same_stored;
 use stored_answers::Stored;
 use stored_answers::of_replied;
-use stored_answers::same_plan;
-use stored_answers::same_stored;
 
 // What a call answers: minimise, or eliminate for any other kind.
 fn changed(

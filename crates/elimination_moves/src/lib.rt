@@ -6,7 +6,7 @@ ghost use lib.ListN.{length, getD, take};
 ghost use Rattle.laws.specs.Edits.{erase};
 ghost use Rattle.models.specs.Problem.{Stops, Demands};
 ghost use Rattle.elimination_moves.specs.Largest.{larger, first-largest, larger-at};
-use cells::cut;
+use cell_shifts::cut;
 
 // Whether the demand of c is larger than that of d.
 fn larger(c: usize, d: usize, demand: &[i32]) -> bool

@@ -26,7 +26,7 @@ pub fn put_in(lengths: &mut [u16], stops: &mut [u16], k: usize, pos: usize, c: u
 {
     let used = offset(lengths, lengths.len());
     let p = offset(lengths, k) + pos;
-    cells::insert_at(stops, used, p, c);
+    cell_shifts::insert_at(stops, used, p, c);
     lengths[k] += 1;
 }
 
@@ -40,7 +40,7 @@ pub fn take_out(lengths: &mut [u16], stops: &mut [u16], k: usize, pos: usize) ->
     let used = offset(lengths, lengths.len());
     let p = offset(lengths, k) + pos;
     let c = stops[p];
-    cells::cut(stops, used, p, 1);
+    cell_shifts::cut(stops, used, p, 1);
     lengths[k] -= 1;
     c
 }

@@ -5,10 +5,10 @@ ghost use Rattle.stored_answers.specs.Answers.{same-stored};
 ghost use Rattle.question_verdict.specs.Asked.{question};
 use models::vehicle::Vehicle;
 use route_asked::ask_of_route;
+use same_answers::same_stored;
 use stored_answers::Stored;
 use stored_answers::of_number;
 use stored_answers::of_window;
-use stored_answers::same_stored;
 
 // The answer to a question. Two floats are the window that `time_window_new` is given.
 fn ask(

@@ -18,8 +18,8 @@ pub fn erase_route(lengths: &mut [u16], stops: &mut [u16], k: usize)
     let used = offset(lengths, count);
     let at = offset(lengths, k);
     let n = lengths[k] as usize;
-    cells::cut(stops, used, at, n);
-    cells::cut(lengths, count, k, 1);
+    cell_shifts::cut(stops, used, at, n);
+    cell_shifts::cut(lengths, count, k, 1);
     lengths[count - 1] = 0;
 }
 

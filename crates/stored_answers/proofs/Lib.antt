@@ -1,3 +1,3 @@
 -- Laws of answers as they are stored.
--- what is written down, and what is compared
+-- what is written down
 pub mod AnswerLaws

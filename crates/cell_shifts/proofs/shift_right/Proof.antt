@@ -2,9 +2,9 @@
 use Prim.Native.Nat.{_-_}
 use lib.ListN.{length}
 use borrow.Author.Needs.{needs}
-use Rattle.cells.proofs.CellLaws.{Shifting, shifting-laws}
-use Rattle.cells.proofs.shift_right.Tie as tie
-use Rattle.cells.proofs.shift_right.Statement.{statement}
+use Rattle.cell_shifts.proofs.ShiftLaws.{Shifting, shifting-laws}
+use Rattle.cell_shifts.proofs.shift_right.Tie as tie
+use Rattle.cell_shifts.proofs.shift_right.Statement.{statement}
 
 abbrev Inv-loop : tie.InvT-loop
 Inv-loop tail₀ c carry₀ i₀ tail carry i = Shifting tail₀ c tail carry i

@@ -1,8 +1,8 @@
 -- `insert_at` meets its contract.
 use borrow.Author.Needs.{needs}
-use Rattle.cells.proofs.CellLaws.{inserted}
-use Rattle.cells.proofs.insert_at.Tie as tie
-use Rattle.cells.proofs.insert_at.Statement.{statement}
+use Rattle.cell_shifts.proofs.ShiftLaws.{inserted}
+use Rattle.cell_shifts.proofs.insert_at.Tie as tie
+use Rattle.cell_shifts.proofs.insert_at.Statement.{statement}
 
 add-shift-right : tie.Need-add-shift-right
 add-shift-right c = search needs

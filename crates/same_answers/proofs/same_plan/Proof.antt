@@ -1,8 +1,8 @@
 -- `same_plan` meets its contract. Assumes nothing.
 use borrow.Author.Needs.{needs}
 use Rattle.laws.specs.Picks.{picks}
-use Rattle.stored_answers.proofs.same_plan.Statement.{statement}
-use Rattle.stored_answers.proofs.same_plan.Tie as tie
+use Rattle.same_answers.proofs.same_plan.Statement.{statement}
+use Rattle.same_answers.proofs.same_plan.Tie as tie
 
 same-cells-requires : tie.Need-same-cells-requires
 same-cells-requires c κs = search needs

@@ -1,8 +1,8 @@
 -- `same_stored` meets its contract. Assumes nothing.
 use borrow.Author.Needs.{needs}
 use Rattle.laws.specs.Picks.{picks}
-use Rattle.stored_answers.proofs.same_stored.Statement.{statement}
-use Rattle.stored_answers.proofs.same_stored.Tie as tie
+use Rattle.same_answers.proofs.same_stored.Statement.{statement}
+use Rattle.same_answers.proofs.same_stored.Tie as tie
 
 returns : tie.Need-returns
 returns c = search picks depth 12

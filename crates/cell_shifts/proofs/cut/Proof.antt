@@ -1,8 +1,8 @@
 -- `cut` meets its contract.
 use borrow.Author.Needs.{needs}
-use Rattle.cells.proofs.CellLaws.{cut-out}
-use Rattle.cells.proofs.cut.Tie as tie
-use Rattle.cells.proofs.cut.Statement.{statement}
+use Rattle.cell_shifts.proofs.ShiftLaws.{cut-out}
+use Rattle.cell_shifts.proofs.cut.Tie as tie
+use Rattle.cell_shifts.proofs.cut.Statement.{statement}
 
 mul-shift-left : tie.Need-mul-shift-left
 mul-shift-left c = search needs

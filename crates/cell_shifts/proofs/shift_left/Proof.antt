@@ -2,9 +2,9 @@
 use Prim.Native.Nat.{_-_}
 use lib.ListN.{length}
 use borrow.Author.Needs.{needs}
-use Rattle.cells.proofs.CellLaws.{Closing, closing-laws}
-use Rattle.cells.proofs.shift_left.Tie as tie
-use Rattle.cells.proofs.shift_left.Statement.{statement}
+use Rattle.cell_shifts.proofs.ShiftLaws.{Closing, closing-laws}
+use Rattle.cell_shifts.proofs.shift_left.Tie as tie
+use Rattle.cell_shifts.proofs.shift_left.Statement.{statement}
 
 abbrev Inv-loop : tie.InvT-loop
 Inv-loop tail₀ n end i₀ tail i = Closing tail₀ n tail i

@@ -2,9 +2,9 @@
 use Prim.Native.Nat.{_-_}
 use lib.ListN.{length}
 use borrow.Author.Needs.{needs}
-use Rattle.stored_answers.proofs.AnswerLaws.{Comparing, cells-laws}
-use Rattle.stored_answers.proofs.same_cells.Statement.{statement}
-use Rattle.stored_answers.proofs.same_cells.Tie as tie
+use Rattle.same_answers.proofs.CellLaws.{Comparing, cells-laws}
+use Rattle.same_answers.proofs.same_cells.Statement.{statement}
+use Rattle.same_answers.proofs.same_cells.Tie as tie
 
 abbrev Inv-loop : tie.InvT-loop
 Inv-loop xs ys i₀ i = Comparing xs ys i

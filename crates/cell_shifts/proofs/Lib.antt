@@ -1,0 +1,3 @@
+-- Laws that this crate's proofs cite.
+-- the loops over cells that move, and a lent part put back
+pub mod ShiftLaws

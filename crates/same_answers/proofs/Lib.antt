@@ -1,0 +1,3 @@
+-- Laws that this crate's proofs cite.
+-- two slices compared
+pub mod CellLaws
