@@ -11,7 +11,7 @@ ghost use Rattle.plan.specs.Plan.{Lent, split};
 ghost use Rattle.route_cost.specs.Route.{cost};
 use float_functions::abs;
 use models::vehicle::Vehicle;
-use route_cost::plan_cost;
+use plan_cost::plan_cost;
 
 // Whether a plan costs less than `before` by more than the tolerance.
 pub fn is_cheaper(

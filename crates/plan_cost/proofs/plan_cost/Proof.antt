@@ -2,10 +2,10 @@
 use Prim.Native.Nat.{_-_}
 use borrow.Author.Needs.{needs}
 use lib.ListN.{length}
 use Rattle.route_cost.proofs.VisitLaws.{part-end, part-stops}
-use Rattle.route_cost.proofs.DistanceLaws.{Costing, costing-laws}
-use Rattle.route_cost.proofs.plan_cost.Statement.{statement}
-use Rattle.route_cost.proofs.plan_cost.Tie as tie
+use Rattle.plan_cost.proofs.CostLaws.{Costing, costing-laws}
+use Rattle.plan_cost.proofs.plan_cost.Statement.{statement}
+use Rattle.plan_cost.proofs.plan_cost.Tie as tie
 
 abbrev Inv-loop : tie.InvT-loop
 Inv-loop lengths stops n distances depot fixed sum₀ at₀ k₀ sum at k = Costing n distances depot fixed lengths stops sum at k

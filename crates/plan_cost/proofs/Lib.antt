@@ -1,0 +1,3 @@
+-- Laws that this crate's proofs cite.
+-- the cost of a plan
+pub mod CostLaws
