@@ -16,7 +16,7 @@ ghost use Rattle.insertion.specs.Pass.{may-pass, pass-position};
 use insertion_cost::insertion_cost;
 use local_search::feasible::trial_ok;
 use models::vehicle::Vehicle;
-use quick_test::may_fit;
+use quick_fit::may_fit;
 use route_cost::Best;
 use route_cost::Insertion;
 

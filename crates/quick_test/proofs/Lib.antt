@@ -3,5 +3,3 @@
 pub mod ServedLaws
 -- the latest arrival at a stop, as the code of `latest_times` meets it
 pub mod ArrivalLaws
--- the test of one position
-pub mod FitLaws

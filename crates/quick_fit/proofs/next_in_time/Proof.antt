@@ -1,8 +1,8 @@
 -- `next_in_time` meets its contract.
 use borrow.Author.Needs.{needs}
-use Rattle.quick_test.proofs.FitLaws.{stop-there, next-laws}
-use Rattle.quick_test.proofs.next_in_time.Tie as tie
-use Rattle.quick_test.proofs.next_in_time.Statement.{statement}
+use Rattle.quick_fit.proofs.FitLaws.{stop-there, next-laws}
+use Rattle.quick_fit.proofs.next_in_time.Tie as tie
+use Rattle.quick_fit.proofs.next_in_time.Statement.{statement}
 
 stop-at-requires : tie.Need-stop-at-requires
 stop-at-requires c κs = search needs

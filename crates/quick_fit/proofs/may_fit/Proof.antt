@@ -1,8 +1,8 @@
 -- `may_fit` meets its contract.
 use borrow.Author.Needs.{needs}
-use Rattle.quick_test.proofs.FitLaws.{before-there, fit-laws}
-use Rattle.quick_test.proofs.may_fit.Tie as tie
-use Rattle.quick_test.proofs.may_fit.Statement.{statement}
+use Rattle.quick_fit.proofs.FitLaws.{before-there, fit-laws}
+use Rattle.quick_fit.proofs.may_fit.Tie as tie
+use Rattle.quick_fit.proofs.may_fit.Statement.{statement}
 
 left-before-requires : tie.Need-left-before-requires
 left-before-requires c κs = search needs

@@ -1,8 +1,8 @@
 -- `stop_at` meets its contract.
 use borrow.Author.Needs.{needs}
 use native.Mathlib.Omega.{arith}
-use Rattle.quick_test.proofs.stop_at.Tie as tie
-use Rattle.quick_test.proofs.stop_at.Statement.{statement}
+use Rattle.quick_fit.proofs.stop_at.Tie as tie
+use Rattle.quick_fit.proofs.stop_at.Statement.{statement}
 
 mul-result : tie.Need-mul-result
 mul-result c = search needs

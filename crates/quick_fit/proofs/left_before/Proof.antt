@@ -1,8 +1,8 @@
 -- `left_before` meets its contract.
 use borrow.Author.Needs.{needs}
 use Rattle.laws.specs.Picks.{picks}
-use Rattle.quick_test.proofs.left_before.Tie as tie
-use Rattle.quick_test.proofs.left_before.Statement.{statement}
+use Rattle.quick_fit.proofs.left_before.Tie as tie
+use Rattle.quick_fit.proofs.left_before.Statement.{statement}
 
 returns : tie.Need-returns
 returns c = search picks

@@ -1,8 +1,8 @@
 -- `in_time` meets its contract.
 use borrow.Author.Needs.{needs}
-use Rattle.quick_test.proofs.FitLaws.{in-time-is}
-use Rattle.quick_test.proofs.in_time.Tie as tie
-use Rattle.quick_test.proofs.in_time.Statement.{statement}
+use Rattle.quick_fit.proofs.FitLaws.{in-time-is}
+use Rattle.quick_fit.proofs.in_time.Tie as tie
+use Rattle.quick_fit.proofs.in_time.Statement.{statement}
 
 abs-requires : tie.Need-abs-requires
 abs-requires c κs = search needs
