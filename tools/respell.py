@@ -18,6 +18,8 @@ DECLARED = re.compile(r"^\s*(?:(?:abbrev|unfoldable|pub|record|data|ruleset)\s+)
 OPENED = re.compile(r"^\s*(?:pub\s+)?(?:record|data|ruleset)\s+(?:pub\s+)?([^\s:(){}.;,]+)")
 RULES = re.compile(r"^\s*ruleset\s+(?:pub\s+)?([^\s:(){}.;,]+)")
 SPAN = re.compile(r"`[^`\n]+`")
+USE = re.compile(r"^\s*(?:pub )?(?:ghost )?use ([\w.]+)\.\{([^}]*)\}", re.M)
+CRATES = set(os.listdir("crates"))
 # Names that would fall together with one of the library's.
 OTHERWISE = {"nat-abs": "abs-nat"}
 NUMERAL = re.compile(r"(\de)-(\d)")
@@ -58,6 +60,16 @@ def declared():
                 if found and not found[1].startswith("--") and spelled(found[1]) != found[1]:
                     names.add(found[1])
     return names
+
+
+def own(path):
+    steps = path.split(".")
+    return steps[0] == "Rattle" and steps[1] in CRATES
+
+
+def lent(text):
+    """The names that a file imports from a library, which keep their spelling in it."""
+    return {item.split(" as ")[0].strip() for use in USE.finditer(text) if not own(use[1]) for item in use[2].split(",")}
 
 
 def turned(text, table):
@@ -105,8 +117,9 @@ def main(check):
         return
     for path in files(".antt", ".rt", ".edit", ".md"):
         text = read(path)
+        names = {name: to for name, to in table.items() if name not in lent(text)}
         by = turned_antt if path.endswith(".antt") else turned_rt if path.endswith(".rt") else turned if path.endswith(".edit") else spans
-        to = by(text, table)
+        to = by(text, names)
         if to != text:
             with open(path, "w", encoding="utf-8") as file:
                 file.write(to)

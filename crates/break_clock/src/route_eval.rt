@@ -4,7 +4,7 @@ ghost use Rattle.break_clock.specs.RouteEval.{priced_distance};
 
 use labels::Taken;
 
-#[derive(Drop)]
+#[derive(Clone, Copy)]
 pub struct RouteEval {
     pub distance: f64,
     pub duration: f64,
@@ -14,7 +14,7 @@ pub struct RouteEval {
 }
 
 // `Option<RouteEval>`, and `Option<Scheduled>`, whose fields are the same.
-#[derive(Drop)]
+#[derive(Clone, Copy)]
 pub enum Eval {
     Infeasible,
     Feasible(RouteEval),

@@ -11,7 +11,7 @@ use models::vehicle::{Rest, VehicleBreak};
 use place_record::customer_at;
 
 // The clock of a route that is extended one stop at a time. Each step takes the clock and hands the next one back, the break beside it.
-#[derive(Drop)]
+#[derive(Clone, Copy)]
 pub struct BreakClock {
     pub before: Served,
     pub after: Served,
@@ -19,7 +19,7 @@ pub struct BreakClock {
     pub index: usize,
 }
 
-#[derive(Drop)]
+#[derive(Clone, Copy)]
 pub enum Pushed {
     Stuck,
     On(BreakClock),
@@ -149,13 +149,13 @@ impl BreakClock {
 }
 
 // A route with a break as far as it has been driven: its clock, and the distance so far.
-#[derive(Drop)]
+#[derive(Clone, Copy)]
 pub struct Riding {
     pub clock: BreakClock,
     pub distance: f64,
 }
 
-#[derive(Drop)]
+#[derive(Clone, Copy)]
 pub enum Ridden {
     Stuck,
     At(Riding),

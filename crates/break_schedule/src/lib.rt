@@ -1,4 +1,6 @@
 // A route with a driver's break, driven stop by stop on the break's clock (evaluation/schedule.rs, `schedule`).
+#![tactic(auto)]
+
 ghost use Rattle.std.specs.Prelude.{◌≡◌, ◌<◌, ◌≤◌, ◌+◌, length};
 ghost use Rattle.models.specs.Customer.{customers};
 ghost use Rattle.models.specs.Problem.{matrix, Square, Fit, Stops};

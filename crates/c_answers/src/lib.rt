@@ -1,5 +1,7 @@
 // Answers of the C interface, written into the slices that are lent for them: yes or no, a number, a window, what a call did. `c_evaluations` writes
 // evaluations.
+#![tactic(auto)]
+
 ghost use Rattle.std.specs.Prelude.{◌≡◌, [], length};
 ghost use Rattle.planner.specs.Calls.{answered};
 ghost use Rattle.planner.specs.Told.{replied_told};

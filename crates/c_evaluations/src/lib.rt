@@ -1,4 +1,6 @@
 // The evaluation of a route, written into the slices that C lends for it.
+#![tactic(auto)]
+
 ghost use Rattle.std.specs.Prelude.{◌≡◌, [], ◌∷◌, length};
 ghost use Rattle.planner.specs.Calls.{answered};
 ghost use Rattle.planner_questions.specs.Told.{evaluated_told};

@@ -1,4 +1,6 @@
 // Whether the slices for an answer have its lengths, and whether the byte `given` is one. C gets 100 or 101 where not, and nothing is written.
+#![tactic(auto)]
+
 ghost use Rattle.std.specs.Prelude.{◌≡◌};
 ghost use Rattle.c_fits.specs.Misfit.{misfit};
 

@@ -1,4 +1,6 @@
 // What C is told after a list of calls and after a sheet.
+#![tactic(auto)]
+
 ghost use Rattle.std.specs.Prelude.{◌≡◌, length};
 ghost use Rattle.c_reports.specs.Reports.{ran_code, printed_code, bytes_written};
 

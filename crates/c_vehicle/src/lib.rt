@@ -1,4 +1,6 @@
 // The vehicle, made of the numbers that C hands over.
+#![tactic(auto)]
+
 ghost use Rattle.std.specs.Prelude.{◌≡◌};
 ghost use Rattle.c_vehicle.specs.VehicleOf.{limit_of, rest_of, vehicle_of};
 

@@ -1,4 +1,6 @@
 // The record of a list of calls: the answer of each in four words, and both slices after it. What is recorded is in call_words, specs/Words.antt.
+#![tactic(auto)]
+
 ghost use Rattle.std.specs.Prelude.{◌≡◌, [], ◌∷◌, ◌++◌, ◌+◌, ◌*◌, ◌≤◌, length};
 ghost use Rattle.planner.specs.Told.{replied_told};
 ghost use Rattle.call_words.specs.Words.{answer_words, put};

@@ -1,5 +1,7 @@
 // A list of calls over one problem, as words that the caller lends say: minimise and eliminate run one after the other, and every answer and both
 // slices after each call are recorded. What the words say is in call_words, specs/Words.antt; what is promised of a run, in specs/Lists.antt.
+#![tactic(auto)]
+
 ghost use Rattle.std.specs.Prelude.{◌≡◌, true};
 ghost use Rattle.models.specs.Problem.{problem};
 ghost use Rattle.call_words.specs.Words.{count_of, buffers, well_formed};
@@ -10,7 +12,7 @@ use models::vehicle::Vehicle;
 use recorded_call::run_next;
 
 // How a list ends: its words are malformed, or so many calls were run.
-#[derive(Drop)]
+#[derive(Clone, Copy)]
 pub enum Ran {
     Malformed,
     Done(usize),

@@ -1,11 +1,13 @@
 // A list of calls as words that the caller lends: what they ask for, and whether they are malformed. What the words say, and how an answer and both
 // slices are recorded, is in specs/Words.antt.
+#![tactic(auto)]
+
 ghost use Rattle.std.specs.Prelude.{◌≡◌, ◌+◌, ◌*◌, ◌≤◌, length, drop, eqb};
 ghost use Rattle.planner.specs.Told.{work_of};
 ghost use Rattle.call_words.specs.Words.{buffers, words_first, words_of, kind_passes, call_passes, calls_pass, well_formed};
 
 // The six words of a call: its kind (0 minimise, 1 eliminate), M, K, how many words its tape has, and how many u16 and f64 work cells it is lent.
-#[derive(Drop)]
+#[derive(Clone, Copy)]
 pub struct Words {
     pub kind: u64,
     pub limit: u64,

@@ -1,5 +1,7 @@
 // One public call of a list, by its kind: minimise or eliminate, on the plan and with the tape and the work cells that its words say. What the words say is
 // in call_words, specs/Words.antt.
+#![tactic(auto)]
+
 ghost use Rattle.std.specs.Prelude.{◌≡◌, length, drop};
 ghost use Rattle.models.specs.Problem.{problem};
 ghost use Rattle.planner.specs.Run.{call};

@@ -1,4 +1,6 @@
 // Two cells, or two parts of lent cells, exchanged.
+#![tactic(auto)]
+
 ghost use Rattle.std.specs.Prelude.{◌≡◌, ◌-◌, ◌≤◌, ◌<◌, length};
 ghost use Rattle.laws.specs.Exchanges.{swap, swap_parts};
 

@@ -1,4 +1,6 @@
 // Cells that move: the stops of a plan, route after route, of which the first `used` are in use, with a stop put in or some taken out.
+#![tactic(auto)]
+
 ghost use Rattle.std.specs.Prelude.{◌≡◌, ◌∷◌, ◌++◌, ◌+◌, ◌-◌, ◌≤◌, ◌<◌, length, take, drop};
 ghost use Rattle.laws.specs.Edits.{insert_at, cut};
 

@@ -1,4 +1,6 @@
 // The stored calls that change a plan: each is asked on the plan as the last one left it, and its answer and both slices are compared.
+#![tactic(auto)]
+
 ghost use Rattle.std.specs.Prelude.{◌≡◌, length};
 ghost use Rattle.models.specs.Problem.{problem};
 ghost use Rattle.ejection_pool.specs.Running.{allowance};

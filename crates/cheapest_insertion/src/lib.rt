@@ -1,4 +1,6 @@
 // The cheapest place for a stop (local_search/route_minimization.rs, `Pool::cheapest`): over the routes of a plan and then their positions.
+#![tactic(auto)]
+
 ghost use Rattle.std.specs.Prelude.{◌≡◌, ◌-◌, ◌<◌, ◌≤◌, length, take, drop};
 ghost use Rattle.laws.specs.All.{All};
 ghost use Rattle.models.specs.RouteLimits.{limits_of};

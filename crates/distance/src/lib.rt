@@ -1,4 +1,6 @@
 // The distance matrix: n by n cells, row by row, and travel times likewise or none (distance/matrix.rs).
+#![tactic(auto)]
+
 ghost use Rattle.std.specs.Prelude.{◌≡◌, false, ◌<◌, ◌≤◌, ◌*◌, length};
 ghost use Rattle.std.specs.Float.Ieee.{is_nan};
 ghost use Rattle.floats.specs.Binary64.{max};

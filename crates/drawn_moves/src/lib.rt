@@ -1,4 +1,6 @@
 // A random move between two routes that have stops: of what kind and where is drawn, and it is tried (local_search/route_minimization.rs, `Pool::perturb`).
+#![tactic(auto)]
+
 ghost use Rattle.std.specs.Prelude.{◌≡◌, ◌≤◌, length};
 ghost use Rattle.models.specs.RouteLimits.{limits_of};
 ghost use Rattle.models.specs.Problem.{problem, Admitted};

@@ -1,4 +1,6 @@
 // The ejection (local_search/route_minimization.rs, `Pool::eject`): one stop leaves a route, or two, so that another can go in.
+#![tactic(auto)]
+
 ghost use Rattle.std.specs.Prelude.{◌≡◌, suc, ◌-◌, ◌≤◌, ◌<◌, length, get_or, take};
 ghost use Rattle.models.specs.Problem.{Stops};
 ghost use Rattle.ejection.specs.Eject.{kept, failures_at, failure_sum, chosen, fails_more, outranks};
@@ -6,7 +8,7 @@ ghost use Rattle.ejection.specs.Asked.{Counted};
 
 // Who leaves a route and where the popped stop goes: the sum of their failures, what the insertion costs, the route, the two places in it
 // (the same one twice where one stop leaves), and the position in the kept part.
-#[derive(Drop)]
+#[derive(Clone, Copy)]
 pub struct Ejection {
     pub failed: u32,
     pub cost: f64,
@@ -17,7 +19,7 @@ pub struct Ejection {
 }
 
 // The best ejection so far, if there is one.
-#[derive(Drop)]
+#[derive(Clone, Copy)]
 pub enum Best {
     Nothing,
     At(Ejection),

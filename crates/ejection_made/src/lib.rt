@@ -1,4 +1,6 @@
 // The ejection made: the plan is edited in place, and those who leave go onto the pool in route order.
+#![tactic(auto)]
+
 ghost use Rattle.std.specs.Prelude.{◌≡◌, ◌+◌, ◌<◌, length, get_or};
 ghost use Rattle.plan.specs.Plan.{Holds, Lent, HasPosition, HasStop, split, route, total, put_in, take_out};
 ghost use Rattle.ejection.specs.Ejected.{Inside};

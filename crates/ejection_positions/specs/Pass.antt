@@ -4,7 +4,7 @@ use Rattle.std.specs.Prelude.{ℕ, suc, ◌≡◌, Bool, true, false, cond, List
 use Rattle.std.proofs.Math.Path.{refl}
 use Rattle.std.proofs.Math.Bool.{not}
 use Rattle.std.proofs.Math.Option.{Option, none, some}
-use borrow.Author.Tests.{not_true}
+use borrow.Author.Tests.{not-true}
 use Rattle.laws.specs.Loops.{loop_rule}
 use Rattle.laws.specs.Searches.{every, every_at}
 use Rattle.models.specs.Problem.{DistanceMatrix, Problem, depot}
@@ -40,7 +40,7 @@ module _ (p : Problem) (c n k i j : ℕ) (left : List ℕ) (best : Option Ejecti
   beaten_stays : (t : Times) (pos : ℕ) (b : Option Ejection) → b ≡ best → not (outranks n (insertion_cost p.roads (depot p) left pos c) best) ≡ true
       → try_in_kept p c n k i j left t pos b ≡ best
   unfolding try_in_kept
-  beaten_stays t pos b same f = rw (same, not_true (outranks n (insertion_cost p.roads (depot p) left pos c) best) f)
+  beaten_stays t pos b same f = rw (same, not-true (outranks n (insertion_cost p.roads (depot p) left pos c) best) f)
 
   -- Then the best so far stays, whatever the tests say: each turn of the loop leaves it.
   pub none_outranks_stays : none_outranks p.roads (depot p) c n left best ≡ true → (o : Option Times) → try_kept p c n k i j left o best ≡ best

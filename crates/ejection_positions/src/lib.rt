@@ -1,4 +1,6 @@
 // The positions of what is kept of a route: the best of those where the popped stop goes in.
+#![tactic(auto)]
+
 ghost use Rattle.std.specs.Prelude.{◌≡◌, [], suc, ◌*◌, ◌<◌, ◌≤◌, length};
 ghost use Rattle.laws.specs.Loops.{loop};
 ghost use Rattle.models.specs.Customer.{customers};
@@ -17,7 +19,7 @@ use route_load::has_room;
 use route_times::prepare;
 
 // Who leaves: the sum of their failures, the route and their two places in it, the same one twice where one stop leaves.
-#[derive(Drop)]
+#[derive(Clone, Copy)]
 pub struct Out {
     pub failed: u32,
     pub route: usize,

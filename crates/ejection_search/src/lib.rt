@@ -1,5 +1,7 @@
 // The search for the best ejection over the routes of a plan (local_search/route_minimization.rs, `Pool::eject`): of one stop, or only if no single one works of
 // two.
+#![tactic(auto)]
+
 ghost use Rattle.std.specs.Prelude.{◌≡◌, ◌-◌, ◌<◌, ◌≤◌, length, take, drop};
 ghost use Rattle.laws.specs.All.{All};
 ghost use Rattle.models.specs.RouteLimits.{limits_of};

@@ -1,5 +1,7 @@
 // The attempt to move the stops of a route into the others (local_search/route_elimination.rs, the body of `for r in order`), and the plan put back where
 // nothing is gained.
+#![tactic(auto)]
+
 ghost use Rattle.std.specs.Prelude.{◌≡◌, ◌+◌, ◌≤◌, length};
 ghost use Rattle.models.specs.Problem.{matrix, problem};
 ghost use Rattle.plan.specs.Plan.{split};

@@ -1,5 +1,7 @@
 // Route elimination: its definitions and their laws are in specs/. In code here, the stops of the route that is to go, the largest demand first: each is taken
 // out of the cells that hold those left (local_search/route_elimination.rs, `moving`).
+#![tactic(auto)]
+
 ghost use Rattle.std.specs.Prelude.{◌≡◌, ◌-◌, ◌<◌, ◌≤◌, length, get_or, take};
 ghost use Rattle.laws.specs.Edits.{erase};
 ghost use Rattle.models.specs.Problem.{Stops, Demands};

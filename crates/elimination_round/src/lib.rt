@@ -1,5 +1,7 @@
 // One attempt after the other in a round of elimination: the routes by length, stable, until one is accepted or none is left
 // (local_search/route_elimination.rs, `for r in order`).
+#![tactic(auto)]
+
 ghost use Rattle.std.specs.Prelude.{◌≡◌};
 ghost use Rattle.models.specs.Problem.{matrix, problem};
 ghost use Rattle.plan.specs.Plan.{split};

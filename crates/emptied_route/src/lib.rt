@@ -1,4 +1,6 @@
 // A route of the plan goes and its stops are moved into the others, where that gains (local_search/route_elimination.rs, the body of `for r in order`).
+#![tactic(auto)]
+
 ghost use Rattle.std.specs.Prelude.{◌≡◌, true, ◌++◌, ◌+◌, ◌-◌, ◌<◌, ◌≤◌, length, get_or, take, drop};
 ghost use Rattle.models.specs.Problem.{matrix, problem};
 ghost use Rattle.plan.specs.Plan.{Lent, split, route, total};

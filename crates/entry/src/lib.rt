@@ -1,2 +1,3 @@
 // The entry checks: the refusal table (specs/Table.antt), and what a call that it does not refuse may rely on. This crate has no code; the checks in code are
 // in problem_checks, place_checks, length_checks, stop_checks, refusal_rows and refusals.
+#![tactic(auto)]

@@ -14,14 +14,14 @@ use models::vehicle::{Rest, VehicleBreak};
 use place_record::customer_at;
 
 // A route as far as it has been driven: the time its last stop is left, the distance so far, and that stop.
-#[derive(Drop)]
+#[derive(Clone, Copy)]
 pub struct Way {
     pub time: f64,
     pub distance: f64,
     pub prev: usize,
 }
 
-#[derive(Drop)]
+#[derive(Clone, Copy)]
 pub enum Reached {
     Late,
     At(Way),
@@ -41,7 +41,7 @@ impl Way {
 }
 
 // When a customer's service ends, `Option<f64>`.
-#[derive(Drop)]
+#[derive(Clone, Copy)]
 pub enum Left {
     Missed,
     At(f64),

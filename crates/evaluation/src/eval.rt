@@ -32,14 +32,14 @@ pub fn limited(e: Eval, limits: RouteLimits) -> Eval
 }
 
 // A route as far as it has been driven: its label, the distance so far, and the last stop.
-#[derive(Drop)]
+#[derive(Clone, Copy)]
 pub struct Walk {
     pub label: Label,
     pub distance: f64,
     pub prev: usize,
 }
 
-#[derive(Drop)]
+#[derive(Clone, Copy)]
 pub enum Walked {
     Late,
     At(Walk),

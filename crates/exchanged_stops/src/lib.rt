@@ -1,4 +1,6 @@
 // Two stops of two routes of a plan exchanged, in the plan's two slices.
+#![tactic(auto)]
+
 ghost use Rattle.std.specs.Prelude.{◌≡◌};
 ghost use Rattle.plan.specs.Plan.{Lent, HasStop, split, exchange_stops};
 

@@ -1,4 +1,6 @@
 // The functions of Rust's f64 that a route planner calls, for every f64.
+#![tactic(auto)]
+
 ghost use Rattle.std.specs.Prelude.{◌≡◌};
 ghost use Rattle.floats.specs.Binary64.{+∞, is_finite, max, min, abs, is_sign_negative, total_key, total_less};
 

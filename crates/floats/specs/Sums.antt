@@ -62,16 +62,16 @@ less_room : (b t r P : ℕ) → b + t + r ≤ P → b + t ≤ P
 less_room b t r P h = omega arith
 
 -- the start's units, and n for each term
-pub upto_sum : {k b n : ℕ} {a : Float} {xs : List Float} → Upto k b a → AllUpto k n xs → k ≤ 970
+pub upto_sum : {k n b : ℕ} {a : Float} {xs : List Float} → Upto k b a → AllUpto k n xs → k ≤ 970
     → b + length xs * n ≤ 2 ^ 53 → Upto k (b + length xs * n) (sum_from a xs)
 unfolding sum_from
-upto_sum {k} {b} {n} u none h l =
+upto_sum {k} {n} {b} u none h l =
     upto_more (b + 0 * n) u (le_of_eq (sym (ap (λ (z : ℕ). b + z) (zero-mul n) ∙ add-zero b)))
-upto_sum {k} {b} {n} {a} u (more {x} {xs} v vs) h l =
+upto_sum {k} {n} {b} {a} u (more {x} {xs} v vs) h l =
     let e : b + suc (length xs) * n ≡ b + n + length xs * n = one_more b (length xs) n in
     let l' : b + n + length xs * n ≤ 2 ^ 53 = subst (λ (z : ℕ). z ≤ 2 ^ 53) e l in
     subst (λ (z : ℕ). Upto k z (sum_from (a ⊕ x) xs)) (sym e)
-    (upto_sum (upto_add u v h (less_room b n (length xs * n) (2 ^ 53) l')) vs h l')
+    (upto_sum {b = b + n} (upto_add u v h (less_room b n (length xs * n) (2 ^ 53) l')) vs h l')
 
 scaled : (m n c : ℕ) → c ≤ m → 0 + c * n ≤ m * n
 scaled m n c h = le_trans (le_of_eq (zero-add (c * n))) (mul-le-mul_right n h)
@@ -132,17 +132,19 @@ sum_take a xs i d h =
 
 -- ---- the order: from a start that is no larger, with terms that are no larger, a sum is no larger
 
-pub sum_mono : {k b n : ℕ} {a a' : Float} {xs ys : List Float} → Upto k b a → Upto k b a' → AllUpto k n xs
+pub sum_mono : {k n b : ℕ} {a a' : Float} {xs ys : List Float} → Upto k b a → Upto k b a' → AllUpto k n xs
     → AllUpto k n ys → le a a' ≡ true → AllLe xs ys → k ≤ 970 → b + length xs * n ≤ 2 ^ 53
     → le (sum_from a xs) (sum_from a' ys) ≡ true
 unfolding sum_from
 sum_mono u u' none none o none h l = o
-sum_mono {k} {b} {n} {a} {a'} u u' (more {x} {xs} v vs) (more {x = y} w ws) o (more p ps) h l =
+sum_mono u u' none (more w ws) o p h l = elim p [ ]
+sum_mono u u' (more v vs) none o p h l = elim p [ ]
+sum_mono {k} {n} {b} {a} {a'} u u' (more {x} {xs} v vs) (more {x = y} w ws) o (more p ps) h l =
     let l' : b + n + length xs * n ≤ 2 ^ 53 = subst (λ (z : ℕ). z ≤ 2 ^ 53) (one_more b (length xs) n) l in
     let r = less_room b n (length xs * n) (2 ^ 53) l' in
     let o' : le (a ⊕ x) (a' ⊕ y) ≡ true =
     add_mono_true a a' x y (upto_finite u) (upto_finite u') (upto_finite v) (upto_finite w) o p in
-    sum_mono (upto_add u v h r) (upto_add u' w h r) vs ws o' ps h l'
+    sum_mono {b = b + n} (upto_add u v h r) (upto_add u' w h r) vs ws o' ps h l'
 
 pub all_le_self : {k n : ℕ} {xs : List Float} → AllUpto k n xs → AllLe xs xs
 all_le_self none = none
@@ -152,15 +154,15 @@ one_more_after : (b c t : ℕ) → b + t + suc c * t ≡ b + t + t + c * t
 one_more_after b c t = omega (arith, suc-mul c t)
 
 -- With one term less it is no larger.
-pub sum_without : {k b n : ℕ} {a z : Float} {xs ys : List Float} → Upto k b a → AllUpto k n xs → Upto k n z
+pub sum_without : {k n b : ℕ} {a z : Float} {xs ys : List Float} → Upto k b a → AllUpto k n xs → Upto k n z
     → AllUpto k n ys → k ≤ 970 → b + n + length (xs ++ ys) * n ≤ 2 ^ 53
     → le (sum_from a (xs ++ ys)) (sum_from a (xs ++ (z ∷ ys))) ≡ true
 unfolding sum_from
-sum_without {k} {b} {n} {a} {z} {ys = ys} u none w vs h l =
+sum_without {k} {n} {b} {a} {z} {ys = ys} u none w vs h l =
     let r = less_room b n (length ys * n) (2 ^ 53) l in
     sum_mono (upto_more (b + n) u (le-add_right b n)) (upto_add u w h r) vs vs (upto_add_left u w) (all_le_self vs) h l
-sum_without {k} {b} {n} {a} {z} {ys = ys} u (more {xs} v us) w vs h l =
+sum_without {k} {n} {b} {a} {z} {ys = ys} u (more {xs} v us) w vs h l =
     let l' : b + n + n + length (xs ++ ys) * n ≤ 2 ^ 53 =
     subst (λ (m : ℕ). m ≤ 2 ^ 53) (one_more_after b (length (xs ++ ys)) n) l in
     let r = less_room b n n (2 ^ 53) (less_room (b + n) n (length (xs ++ ys) * n) (2 ^ 53) l') in
-    sum_without (upto_add u v h r) us w vs h l'
+    sum_without {b = b + n} (upto_add u v h r) us w vs h l'

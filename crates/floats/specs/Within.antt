@@ -5,7 +5,7 @@ use Rattle.std.proofs.Common.{sym, subst, mul-pos, mul-le-mul_right, le_trans, s
 use Rattle.std.specs.Bool.{beq}
 use Rattle.std.specs.Float.{nan, inf, fin, binary64}
 use Rattle.std.specs.Float.Ieee.{up, down, unlike, round, sum, neg, add, sub, mul, fits, is_nan}
-use Rattle.std.specs.Float.Ieee.Fits.{down_pos, neg_fits}
+use Rattle.std.specs.Float.Ieee.Fits.{down_pos, neg-fits}
 use Rattle.std.specs.Float.Ieee.Scale.{finite}
 use Rattle.std.specs.Float.Ieee.Positive.{num, den}
 use Rattle.floats.specs.Binary64.{◌⊕◌, ◌⊖◌, ◌⊗◌, is_finite, max, min, abs}
@@ -62,7 +62,7 @@ module _ {k n : ℕ} {x : Float} where
 
 pub within_neg : {k n : ℕ} {x : Float} → Within k n x → Within k n (neg x)
 within_neg {k} {n} {x} w =
-    record { real = real x w.real; held = neg_fits binary64 x w.held; most = most x w.most }
+    record { real = real x w.real; held = neg-fits binary64 x w.held; most = most x w.most }
   where
     real : (y : Float) → T (finite y) → T (finite (neg y))
     real nan p = absurd p

@@ -1,5 +1,7 @@
 // A stop of the pool goes into the routes (local_search/route_minimization.rs, `Pool::empty_into`): to its cheapest place or, where it has none, in for others
 // that go onto the pool.
+#![tactic(auto)]
+
 ghost use Rattle.std.specs.Prelude.{◌≡◌, ◌+◌, ◌<◌, ◌≤◌, length};
 ghost use Rattle.models.specs.RouteLimits.{limits_of};
 ghost use Rattle.models.specs.Problem.{problem, Admitted};
@@ -23,7 +25,7 @@ use random_moves::perturb;
 use route_cost::Best;
 
 // How a turn ends: no ejection works; or the number in the pool. With the counts of the call so far.
-#[derive(Drop)]
+#[derive(Clone, Copy)]
 pub enum Turn {
     Stuck(Counts),
     More(usize, Counts),

@@ -1,5 +1,7 @@
 // One position for a stop, on the way to the cheapest one (local_search/route_minimization.rs, `Pool::cheapest`): what it costs, and whether the stop
 // may go in there. The definitions of the whole search and their laws are in specs/.
+#![tactic(auto)]
+
 ghost use Rattle.std.specs.Prelude.{◌≡◌, [], ◌<◌, ◌≤◌, length, take, drop};
 ghost use Rattle.models.specs.Customer.{customers};
 ghost use Rattle.models.specs.RouteLimits.{limits_of};

@@ -1,5 +1,7 @@
 // What a stop put in at a position adds to the distance of a route (local_search/route_minimization.rs, `Pool::insertion_cost`), and the stops on either
 // side of that position. No travel time is read, so the matrix of the contract has none.
+#![tactic(auto)]
+
 ghost use Rattle.std.specs.Prelude.{◌≡◌, [], ◌*◌, ◌<◌, ◌≤◌, length};
 ghost use Rattle.models.specs.Problem.{matrix, Stops};
 ghost use Rattle.route_cost.specs.Route.{prev_stop, next_stop, insertion_cost};

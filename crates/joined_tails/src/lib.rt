@@ -1,5 +1,7 @@
 // The front of one route with the tail of another behind it, joined in the work cells: whether its load is within capacity, and whether it stands
 // (local_search/route_minimization.rs, `Pool::perturb`).
+#![tactic(auto)]
+
 ghost use Rattle.std.specs.Prelude.{◌≡◌, ◌-◌, ◌≤◌, length, take, drop};
 ghost use Rattle.models.specs.RouteLimits.{limits_of};
 ghost use Rattle.models.specs.Problem.{problem, of_demand, Admitted, Demands, Stops};

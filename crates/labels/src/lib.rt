@@ -1,4 +1,6 @@
 // A label: the vehicle at a stop with its service done, or none where the stop cannot be served (evaluation/schedule.rs).
+#![tactic(auto)]
+
 ghost use Rattle.std.specs.Prelude.{◌≡◌};
 ghost use Rattle.labels.specs.Labels.{serve_at, serve, served_from, sooner, earlier, lives};
 
@@ -7,14 +9,14 @@ use models::customer::{Customer, Penalty, Window};
 use models::vehicle::Rest;
 
 // The break, if taken: the index in the route of the stop that it comes before the service of, and its start. `Option<(usize, f64)>`.
-#[derive(Drop)]
+#[derive(Clone, Copy)]
 pub enum Taken {
     No,
     At(usize, f64),
 }
 
 // The vehicle at a stop with its service done.
-#[derive(Drop)]
+#[derive(Clone, Copy)]
 pub struct Label {
     pub time: f64,
     pub lateness: f64,
@@ -23,7 +25,7 @@ pub struct Label {
 }
 
 // A label, or none where the stop cannot be served: `Option<Label>`.
-#[derive(Drop)]
+#[derive(Clone, Copy)]
 pub enum Served {
     Dead,
     Live(Label),

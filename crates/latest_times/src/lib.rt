@@ -1,5 +1,7 @@
 // How late one stop may be reached where the next is to be reached by some time (local_search/route_minimization.rs, a turn of the loop of
 // `Pool::latest_arrivals`). Its definition is in quick_test, specs/Quick.antt.
+#![tactic(auto)]
+
 ghost use Rattle.std.specs.Prelude.{◌≡◌, ◌<◌};
 ghost use Rattle.models.specs.Customer.{customers, customer_at};
 ghost use Rattle.models.specs.Problem.{matrix, Fit};

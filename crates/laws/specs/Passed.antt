@@ -2,7 +2,7 @@
 use Rattle.std.specs.Prelude.{ℕ, ◌+◌, ◌-◌, ◌≤◌, ◌<◌, ◌≡◌, Bool, true, false}
 use Rattle.std.proofs.Math.Nat.{sub-zero}
 use Rattle.std.proofs.Common.{arith, sym, ◌∙◌, rules}
-use Rattle.std.proofs.lemmas.Bool.{not_true, not-false}
+use Rattle.std.proofs.lemmas.Bool.{not-true, not-false}
 use Rattle.laws.specs.Searches.{every, every_skip, every_stop, every_end}
 
 -- each number below k has passed: all do exactly if those from k on do
@@ -24,4 +24,4 @@ module _ (t : ℕ → Bool) (r : ℕ) where
     pub passed_all : r ≤ k → true ≡ every t r 0
     passed_all h = sym (p.left ∙ every_end t r k h)
 
-pub ruleset every_laws = (rules, passed_none, passed_one, failed_one, passed_all, not_true, not-false)
+pub ruleset every_laws = (rules, passed_none, passed_one, failed_one, passed_all, not-true, not-false)

@@ -1,4 +1,6 @@
 // Row 5 of the refusal table (entry, specs/Table.antt) in code: the lengths of a plan.
+#![tactic(auto)]
+
 ghost use Rattle.std.specs.Prelude.{◌≡◌, ◌≤◌, length};
 ghost use Rattle.plan.specs.Plan.{Slices, total};
 ghost use Rattle.entry.specs.Table.{bad_lengths};

@@ -1,4 +1,6 @@
 // The route lines of a listing, written into lent bytes.
+#![tactic(auto)]
+
 ghost use Rattle.listing.specs.Listing.{stop, stops as Listing·stops, route_line};
 ghost use Rattle.listing.specs.Written.{Room, Written};
 

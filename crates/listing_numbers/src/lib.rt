@@ -1,5 +1,7 @@
 // Words and numbers, written into lent bytes. Each function is given the position to write at and answers the position behind what it wrote; the rest
 // of the slice stays as it is.
+#![tactic(auto)]
+
 ghost use Rattle.std.specs.Prelude.{◌≡◌, nat_abs};
 ghost use Rattle.listing.specs.Decimal.{digits, decimal, signed};
 ghost use Rattle.listing.specs.Written.{Room, Written};

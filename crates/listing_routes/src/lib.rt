@@ -1,4 +1,6 @@
 // The lines of routes, numbered from 1, written into lent bytes.
+#![tactic(auto)]
+
 ghost use Rattle.std.specs.Prelude.{◌≡◌, ◌*◌, ◌<◌, ◌≤◌, length};
 ghost use Rattle.laws.specs.All.{All};
 ghost use Rattle.models.specs.Problem.{Stops, Demands};

@@ -1,4 +1,6 @@
 // The first and the last line of a listing and the line of a refusal, written into lent bytes.
+#![tactic(auto)]
+
 ghost use Rattle.listing.specs.Listing.{first_line, last_line, refusal_line};
 ghost use Rattle.listing.specs.Written.{Room, Written};
 

@@ -1,4 +1,6 @@
 // A listing as a whole, written into lent bytes: `put_listing` writes it from position 0 on.
+#![tactic(auto)]
+
 ghost use Rattle.std.specs.Prelude.{◌≡◌, ◌*◌, ◌<◌, ◌≤◌, length, take};
 ghost use Rattle.laws.specs.All.{All};
 ghost use Rattle.models.specs.Problem.{Stops, Demands};

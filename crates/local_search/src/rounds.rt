@@ -2,14 +2,14 @@
 use route_order::Pick;
 
 // The pops counted and the words taken, of a call so far.
-#[derive(Drop)]
+#[derive(Clone, Copy)]
 pub struct Counts {
     pub steps: u64,
     pub draws: u64,
 }
 
 // How the next attempt of a round ends: there is none, the plan is kept and this was the pick, or the one without the route is accepted.
-#[derive(Drop)]
+#[derive(Clone, Copy)]
 pub enum Next {
     End,
     Kept(Pick, Counts),
@@ -17,7 +17,7 @@ pub enum Next {
 }
 
 // What a call answers: how many routes are left, and what its attempts count.
-#[derive(Drop)]
+#[derive(Clone, Copy)]
 pub struct Reduction {
     pub routes: usize,
     pub counts: Counts,

@@ -1,4 +1,6 @@
 // Room made for a stop (local_search/route_minimization.rs, `Pool::empty_into`): the one or the two stops of an ejection leave, and the stop goes in.
+#![tactic(auto)]
+
 ghost use Rattle.std.specs.Prelude.{◌≡◌, ◌+◌, ◌<◌, length};
 ghost use Rattle.plan.specs.Plan.{Lent, split, total};
 ghost use Rattle.ejection.specs.Ejected.{Inside};

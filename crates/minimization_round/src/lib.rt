@@ -1,5 +1,7 @@
 // One attempt after the other in a round of minimisation: the routes by length, stable, until one is accepted or none is left
 // (local_search/route_minimization.rs, `for r in order`).
+#![tactic(auto)]
+
 ghost use Rattle.std.specs.Prelude.{◌≡◌, ◌*◌, ◌<◌, ◌≤◌, length, take};
 ghost use Rattle.models.specs.Problem.{problem, of_distances};
 ghost use Rattle.plan.specs.Plan.{Lent, split, padded, drop_zero};
@@ -21,7 +23,7 @@ use route_order::{Pick, next_pick};
 use route_removal::drop_empty;
 
 // What a round starts with: how many routes there are, and what they cost.
-#[derive(Drop)]
+#[derive(Clone, Copy)]
 pub struct Round {
     pub count: usize,
     pub before: f64,

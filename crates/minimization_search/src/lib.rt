@@ -1,4 +1,6 @@
 // The search of route minimisation: rounds of attempts until a round accepts none (local_search/route_minimization.rs, `'search: loop`).
+#![tactic(auto)]
+
 ghost use Rattle.std.specs.Prelude.{◌≡◌, length};
 ghost use Rattle.models.specs.RouteLimits.{limits_of};
 ghost use Rattle.models.specs.Problem.{problem};

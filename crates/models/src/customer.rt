@@ -5,28 +5,28 @@ ghost use Rattle.models.specs.TimeWindow.{time_window_new, contains, waiting_tim
 use float_functions::{is_finite, max};
 
 // The time in which service at a place may start: an early vehicle waits until `ready`, and one that comes after `due` is late.
-#[derive(Drop)]
+#[derive(Clone, Copy)]
 pub struct TimeWindow {
     pub ready: f64,
     pub due: f64,
 }
 
 // `Option<TimeWindow>`.
-#[derive(Drop)]
+#[derive(Clone, Copy)]
 pub enum Window {
     None,
     Is(TimeWindow),
 }
 
 // The cost of one unit of lateness, `Option<f64>`. A window with a penalty is soft, one without is hard.
-#[derive(Drop)]
+#[derive(Clone, Copy)]
 pub enum Penalty {
     None,
     Of(f64),
 }
 
 // What the evaluation of a route reads of a place. (Its demand is read where loads are summed.)
-#[derive(Drop)]
+#[derive(Clone, Copy)]
 pub struct Customer {
     pub service_duration: f64,
     pub time_window: Window,

@@ -4,7 +4,7 @@ ghost use Rattle.models.specs.RouteLimits.{limits_of, is_unlimited, within, allo
 
 use crate::vehicle::{Limit, Rest, Vehicle};
 
-#[derive(Drop)]
+#[derive(Clone, Copy)]
 pub struct RouteLimits {
     pub max_distance: Limit,
     pub max_duration: Limit,

@@ -3,14 +3,14 @@ ghost use Rattle.std.specs.Prelude.{◌≡◌};
 ghost use Rattle.models.specs.Vehicle.{vehicle_break_new, fixed_cost_in_distance};
 
 // A limit is none or a number: `Option<f64>`.
-#[derive(Drop)]
+#[derive(Clone, Copy)]
 pub enum Limit {
     None,
     At(f64),
 }
 
 // A rest of `duration` that starts no earlier than `earliest` and no later than `latest`, at a stop, before its service.
-#[derive(Drop)]
+#[derive(Clone, Copy)]
 pub struct VehicleBreak {
     pub earliest: f64,
     pub latest: f64,
@@ -18,14 +18,14 @@ pub struct VehicleBreak {
 }
 
 // A break is none or its earliest start, latest start and duration: `Option<VehicleBreak>`.
-#[derive(Drop)]
+#[derive(Clone, Copy)]
 pub enum Rest {
     None,
     Break(f64, f64, f64),
 }
 
 // A vehicle: every route starts and ends at its depot. A route costs `fixed_cost + cost_per_distance × distance`.
-#[derive(Drop)]
+#[derive(Clone, Copy)]
 pub struct Vehicle {
     pub capacity: i32,
     pub depot_id: usize,

@@ -1,4 +1,6 @@
 // The stops of a route moved into the other routes of the plan, one after the other (local_search/route_elimination.rs, `for c in moving`).
+#![tactic(auto)]
+
 ghost use Rattle.std.specs.Prelude.{◌≡◌, ◌+◌, ◌-◌, ◌<◌, get_or, take};
 ghost use Rattle.laws.specs.Edits.{erase};
 ghost use Rattle.models.specs.Problem.{problem};

@@ -1,4 +1,6 @@
 // A random move between two routes that are given (local_search/route_minimization.rs, `Pool::perturb`): where one of them is empty there is none.
+#![tactic(auto)]
+
 ghost use Rattle.std.specs.Prelude.{◌≡◌, ◌≤◌, length};
 ghost use Rattle.models.specs.RouteLimits.{limits_of};
 ghost use Rattle.models.specs.Problem.{problem, Admitted};

@@ -1,4 +1,6 @@
 // Rows 2 and 3 of the refusal table in code, place by place: windows, penalties, demands, flags. A value whose flag is clear is not read.
+#![tactic(auto)]
+
 ghost use Rattle.std.specs.Prelude.{◌≡◌, [], ◌<◌, length};
 ghost use Rattle.laws.specs.Searches.{every};
 ghost use Rattle.models.specs.Customer.{customers};

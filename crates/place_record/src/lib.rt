@@ -1,4 +1,6 @@
 // One place read from the problem's slices: its window and its penalty by its flags, and the record that the evaluation reads.
+#![tactic(auto)]
+
 ghost use Rattle.std.specs.Prelude.{◌≡◌, ◌<◌, length};
 ghost use Rattle.models.specs.Customer.{customers, Sized, window_at, penalty_at, customer_at};
 

@@ -1,4 +1,6 @@
 // A plan in two lent slices, in place of `Vec<Vec<usize>>`: the lengths of its routes, and their stops, route after route.
+#![tactic(auto)]
+
 ghost use Rattle.std.specs.Prelude.{◌≡◌, ◌+◌, ◌-◌, ◌<◌, ◌≤◌, length, slice_index};
 ghost use Rattle.plan.specs.Plan.{Holds, Lent, HasPosition, HasStop, split, route, total, offset, put_in, take_out};
 

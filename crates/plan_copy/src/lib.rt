@@ -1,4 +1,6 @@
 // The plan kept in work cells, to be put back where an attempt without a route fails.
+#![tactic(auto)]
+
 ghost use Rattle.std.specs.Prelude.{◌≡◌, ◌+◌, ◌≤◌, length, take, drop};
 ghost use Rattle.plan.specs.Plan.{saved};
 

@@ -1,4 +1,6 @@
 // The cost of a plan: its routes' distances and fixed costs. It reads no travel times, so the matrix of each contract has none.
+#![tactic(auto)]
+
 ghost use Rattle.std.specs.Prelude.{◌≡◌, [], ◌*◌, ◌-◌, ◌<◌, ◌≤◌, length, take, drop};
 ghost use Rattle.laws.specs.All.{All};
 ghost use Rattle.models.specs.Problem.{matrix, of_distances, Stops};

@@ -2,7 +2,7 @@
 use local_search::rounds::Reduction;
 
 // How many routes are left and what the call counted, or the number of the refusal.
-#[derive(Drop)]
+#[derive(Clone, Copy)]
 pub enum Replied {
     Refused(u8),
     Answered(Reduction),

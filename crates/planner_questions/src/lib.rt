@@ -1,5 +1,7 @@
 // The questions about one route: each is refused by the table, or answers. Those about its worth are in worth_questions, those about the problem in
 // problem_questions.
+#![tactic(auto)]
+
 ghost use Rattle.std.specs.Prelude.{◌≡◌};
 ghost use Rattle.models.specs.Problem.{problem};
 ghost use Rattle.planner.specs.Calls.{public_route_feasible, public_schedule, public_route_distance};
@@ -12,21 +14,21 @@ use models::vehicle::{Vehicle, VehicleBreak};
 use refusals::calls::{route_refusal, schedule_refusal};
 
 // The answer yes or no, or the number of the refusal.
-#[derive(Drop)]
+#[derive(Clone, Copy)]
 pub enum Checked {
     Refused(u8),
     Answered(bool),
 }
 
 // The evaluation of a route, or the number of the refusal.
-#[derive(Drop)]
+#[derive(Clone, Copy)]
 pub enum Evaluated {
     Refused(u8),
     Answered(Eval),
 }
 
 // A number, or the number of the refusal.
-#[derive(Drop)]
+#[derive(Clone, Copy)]
 pub enum Number {
     Refused(u8),
     Answered(f64),

@@ -1,5 +1,7 @@
 // The attempt to empty the pool into the routes, judged by what the plan costs then (local_search/route_minimization.rs, `empty_into` and the test of the cost
 // in the round of `minimize_routes`).
+#![tactic(auto)]
+
 ghost use Rattle.std.specs.Prelude.{◌≡◌, replicate};
 ghost use Rattle.models.specs.Problem.{problem};
 ghost use Rattle.plan.specs.Plan.{Lent, split};
@@ -14,7 +16,7 @@ use pool_emptying::empty_pool;
 use pool_turns::Emptied;
 
 // How an attempt ends: the plan is kept as it was, or the one without the route is accepted; with the counts of the call so far.
-#[derive(Drop)]
+#[derive(Clone, Copy)]
 pub enum Attempted {
     Kept(Counts),
     Accepted(Counts),

@@ -1,5 +1,7 @@
 // The test of the cost in the round of `minimize_routes` (local_search/route_minimization.rs): a plan is accepted where it costs less by more than the
 // tolerance.
+#![tactic(auto)]
+
 ghost use Rattle.std.specs.Prelude.{◌≡◌, ◌*◌, ◌<◌, ◌≤◌, length};
 ghost use Rattle.std.specs.Float.Ieee.{lt};
 ghost use Rattle.floats.specs.Binary64.{◌⊖◌, ◌⊗◌, 1e-12, abs};

@@ -1,4 +1,6 @@
 // The start of `empty_into` (local_search/route_minimization.rs): the pool is emptied into the routes, with one failure for every place.
+#![tactic(auto)]
+
 ghost use Rattle.std.specs.Prelude.{◌≡◌, replicate};
 ghost use Rattle.models.specs.Problem.{problem};
 ghost use Rattle.plan.specs.Plan.{Lent, split};

@@ -1,5 +1,7 @@
 // One turn of the ejection pool (local_search/route_minimization.rs, `Pool::empty_into`): the stop on top goes into the routes, with one failure more where it
 // has no place.
+#![tactic(auto)]
+
 ghost use Rattle.std.specs.Prelude.{◌≡◌, ◌+◌, ◌-◌, ◌<◌, ◌^◌, get_or};
 ghost use Rattle.models.specs.Problem.{problem};
 ghost use Rattle.plan.specs.Plan.{Lent, split};

@@ -1,5 +1,7 @@
 // The turns of the ejection pool (local_search/route_minimization.rs, `Pool::empty_into`): the stops of a route go into the others, one by one, each to its
 // cheapest place or, where it has none, in for others that go onto the pool.
+#![tactic(auto)]
+
 ghost use Rattle.std.specs.Prelude.{◌≡◌};
 ghost use Rattle.models.specs.Problem.{problem};
 ghost use Rattle.plan.specs.Plan.{Lent, split};
@@ -13,7 +15,7 @@ use models::vehicle::Vehicle;
 use pool_turn::one_turn;
 
 // How an attempt ends: the pool is not emptied, or it is. With the counts of the call so far.
-#[derive(Drop)]
+#[derive(Clone, Copy)]
 pub enum Emptied {
     Failed(Counts),
     Done(Counts),

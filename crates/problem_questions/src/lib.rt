@@ -1,4 +1,6 @@
 // The questions about a problem's numbers: each is refused by the table, or answers; a window of two numbers is never refused.
+#![tactic(auto)]
+
 ghost use Rattle.std.specs.Prelude.{◌≡◌};
 ghost use Rattle.models.specs.Problem.{problem};
 ghost use Rattle.planner.specs.Calls.{public_lateness_bound, public_gain_floor, public_time_window_new};

@@ -1,4 +1,6 @@
 // The stored questions: what each kind asks, and whether the answer is the stored one. Those about a route are in route_asked.
+#![tactic(auto)]
+
 ghost use Rattle.std.specs.Prelude.{◌≡◌};
 ghost use Rattle.models.specs.Problem.{problem};
 ghost use Rattle.stored_answers.specs.Answers.{same_stored};

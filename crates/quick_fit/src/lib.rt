@@ -1,5 +1,7 @@
 // The quick test of the ejection pool (local_search/route_minimization.rs, `may_fit`) at one position: whether a stop may go in there, by when the stop before
 // is left and how late the next may be reached (`latest_times`).
+#![tactic(auto)]
+
 ghost use Rattle.std.specs.Prelude.{◌≡◌, ◌≤◌, ◌<◌, length, get_or, take};
 ghost use Rattle.models.specs.Customer.{customers};
 ghost use Rattle.models.specs.Problem.{matrix, Square, Fit, Stops};

@@ -1,5 +1,7 @@
 // When a stop is left, for the quick test of the ejection pool (local_search/route_minimization.rs, `served_at`, `departures`). The definitions of the whole test are
 // in specs/; the test of one position is `quick_fit`.
+#![tactic(auto)]
+
 ghost use Rattle.std.specs.Prelude.{◌≡◌, ◌<◌};
 ghost use Rattle.models.specs.Customer.{customers};
 ghost use Rattle.models.specs.Problem.{matrix, Fit};

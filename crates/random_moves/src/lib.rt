@@ -1,4 +1,6 @@
 // The random moves after an ejection made on a plan (local_search/route_minimization.rs, `Pool::perturb`).
+#![tactic(auto)]
+
 ghost use Rattle.std.specs.Prelude.{◌≡◌, ◌+◌, ◌≤◌, ◌<◌, ◌^◌, length};
 ghost use Rattle.models.specs.RouteLimits.{limits_of};
 ghost use Rattle.models.specs.Problem.{problem, Admitted};

@@ -1,5 +1,7 @@
 // One call of a list, as six words say, run on the plan and recorded: its answer and both slices after it. What the words say is in call_words,
 // specs/Words.antt; what is recorded, in specs/Recording.antt.
+#![tactic(auto)]
+
 ghost use Rattle.std.specs.Prelude.{◌≡◌};
 ghost use Rattle.models.specs.Problem.{problem};
 ghost use Rattle.call_words.specs.Words.{buffers};

@@ -1,5 +1,7 @@
 // The rows of the refusal table (entry, specs/Table.antt) in groups, by what they read. Each group answers with the number of its first row that
 // applies, 0 for none.
+#![tactic(auto)]
+
 ghost use Rattle.std.specs.Prelude.{◌≡◌, true, []};
 ghost use Rattle.models.specs.Problem.{problem, of_distances};
 ghost use Rattle.models.specs.Valid.{sizes_pass, values_pass};

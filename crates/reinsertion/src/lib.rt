@@ -1,5 +1,7 @@
 // The place for a stop of a route that is to be eliminated: the cheapest position in the other routes that passes the check (the body of
 // `for c in moving` in local_search/route_elimination.rs). One pass over the routes and their positions with the best so far.
+#![tactic(auto)]
+
 ghost use Rattle.std.specs.Prelude.{◌≡◌, [], suc, ◌-◌, ◌<◌, ◌≤◌, length, take, drop};
 ghost use Rattle.laws.specs.Loops.{loop};
 ghost use Rattle.models.specs.Problem.{problem, Stops};

@@ -1,5 +1,7 @@
 // A stop that is to be moved, and the tests of a candidate for it (the body of `for c in moving` in local_search/route_elimination.rs). The definitions of the
 // candidates and of the place among them, with their laws, are in specs/.
+#![tactic(auto)]
+
 ghost use Rattle.std.specs.Prelude.{◌≡◌, not, ◌&&◌, ◌||◌, [], ◌≤◌, length};
 ghost use Rattle.floats.specs.Binary64.{is_finite};
 ghost use Rattle.models.specs.Problem.{problem};
@@ -14,7 +16,7 @@ use route_cost::Best;
 
 // A stop c that is to be moved: what was added to the worth of the other routes so far, what is saved, whether a window is soft and whether
 // the check is needed.
-#[derive(Drop)]
+#[derive(Clone, Copy)]
 pub struct Move {
     pub c: usize,
     pub added: f64,

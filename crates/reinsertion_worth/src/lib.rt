@@ -1,5 +1,7 @@
 // What a route is worth, and what an insertion costs in worth: the distance, or with a soft window the cost that weighs the
 // lateness (local_search/route_elimination.rs, `worth`).
+#![tactic(auto)]
+
 ghost use Rattle.std.specs.Prelude.{◌≡◌, [], ◌+◌, ◌<◌, ◌≤◌, length, take};
 ghost use Rattle.laws.specs.Edits.{insert_at};
 ghost use Rattle.models.specs.Customer.{customers};

@@ -9,21 +9,21 @@ use stored::text::{FAULT, number, number_to};
 use stored_values::{float_of, int_of};
 
 // A limit, and the position after it.
-#[derive(Drop)]
+#[derive(Clone, Copy)]
 struct ReadLimit {
     limit: Limit,
     next: usize,
 }
 
 // A break, and the position after it.
-#[derive(Drop)]
+#[derive(Clone, Copy)]
 struct ReadRest {
     rest: Rest,
     next: usize,
 }
 
 // A vehicle, and the position after it.
-#[derive(Drop)]
+#[derive(Clone, Copy)]
 struct ReadVehicle {
     vehicle: Vehicle,
     next: usize,

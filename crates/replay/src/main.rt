@@ -1,5 +1,7 @@
 // Replays stored answers of the original Rust: reads cases from standard input, puts each call to the planner, and prints how many answers are the stored
 // ones, bit for bit. The input is the number of cases and the cases (cases.rt), numbers in decimal. README.md says how it is made.
+#![tactic(auto)]
+
 ghost use Rattle.std.specs.Prelude.{◌≡◌, length};
 
 mod cases;

@@ -2,6 +2,8 @@
 //   for minimise and eliminate: limit, clock, the numbers of u16 and f64 work cells, tape, answer, lengths and stops after it;
 //   for a question: route, three floats, answer.
 // A slice is its count and its cells, an answer is seven numbers. (eliminate has limit and clock 0 and no tape, a question without a route an empty one.)
+#![tactic(auto)]
+
 ghost use Rattle.std.specs.Prelude.{◌≡◌, ◌<◌, length};
 
 use change_verdict::change_agrees;
@@ -14,7 +16,7 @@ use stored_values::float_of;
 use tally::note;
 
 // An answer, and the position after it.
-#[derive(Drop)]
+#[derive(Clone, Copy)]
 struct ReadAnswer {
     answer: Stored,
     next: usize,

@@ -1,4 +1,6 @@
 // The stored questions about a route: what each kind asks, and its answer as it would be stored.
+#![tactic(auto)]
+
 ghost use Rattle.std.specs.Prelude.{◌≡◌};
 ghost use Rattle.models.specs.Problem.{problem};
 ghost use Rattle.route_asked.specs.RouteAsked.{route_question};

@@ -1,4 +1,6 @@
 // An attempt to empty a route into the others (local_search/route_minimization.rs, the body of the round in `minimize_routes`).
+#![tactic(auto)]
+
 ghost use Rattle.std.specs.Prelude.{◌≡◌, ◌<◌, ◌≤◌, length};
 ghost use Rattle.models.specs.Problem.{problem};
 ghost use Rattle.plan.specs.Plan.{split};

@@ -1,5 +1,7 @@
 // What the places' flags and the limits ask of a search: whether any place has a window, or a window and a penalty, and whether the route check is needed
 // at all (evaluation/mod.rs, `has_time_windows`, `has_soft_windows`, `route_checks_needed`).
+#![tactic(auto)]
+
 ghost use Rattle.std.specs.Prelude.{◌≡◌};
 ghost use Rattle.models.specs.Customer.{windowed};
 ghost use Rattle.evaluation.specs.Check.{soft, has_time_windows, has_soft_windows, route_checks_needed};

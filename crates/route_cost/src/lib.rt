@@ -1,5 +1,7 @@
 // The distance of a route, the least gain that counts, and an insertion that a search has found. None of them reads travel times, so the matrix of each contract
 // has none. What an insertion adds to a route is worked out in `insertion_cost`, the cost of a plan in `plan_cost`.
+#![tactic(auto)]
+
 ghost use Rattle.std.specs.Prelude.{◌≡◌, [], ◌*◌, ◌<◌, ◌≤◌, length};
 ghost use Rattle.models.specs.Problem.{matrix, Stops};
 ghost use Rattle.route_cost.specs.Route.{route_distance, gain_floor};
@@ -7,7 +9,7 @@ ghost use Rattle.route_cost.specs.Route.{route_distance, gain_floor};
 use distance::{get, scale};
 
 // An insertion that a search has found: what it costs, the route, the position.
-#[derive(Drop)]
+#[derive(Clone, Copy)]
 pub struct Insertion {
     pub cost: f64,
     pub route: usize,
@@ -15,7 +17,7 @@ pub struct Insertion {
 }
 
 // The best insertion so far, if there is one.
-#[derive(Drop)]
+#[derive(Clone, Copy)]
 pub enum Best {
     Nothing,
     At(Insertion),

@@ -1,4 +1,6 @@
 // The walk of an evaluation (evaluation/mod.rs, `route_eval`): one stop, the stops in order, and the way home.
+#![tactic(auto)]
+
 ghost use Rattle.std.specs.Prelude.{◌≡◌, ◌<◌};
 ghost use Rattle.models.specs.Customer.{customers};
 ghost use Rattle.models.specs.Problem.{matrix, Square, Fit, Stops};

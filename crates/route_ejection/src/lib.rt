@@ -1,4 +1,6 @@
 // The best ejection out of one route (local_search/route_minimization.rs, `Pool::eject`): one stop leaves, or two, and what is kept takes the stop in.
+#![tactic(auto)]
+
 ghost use Rattle.std.specs.Prelude.{◌≡◌, ◌<◌, ◌≤◌, length};
 ghost use Rattle.models.specs.Problem.{problem};
 ghost use Rattle.ejection.specs.Eject.{chosen, try_out, try_one, try_two_from, try_two};

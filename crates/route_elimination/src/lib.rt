@@ -1,5 +1,7 @@
 // Route elimination: a route is emptied by inserting its stops into the others (local_search/route_elimination.rs).
 // The definitions and their laws are in `elimination_moves`.
+#![tactic(auto)]
+
 ghost use Rattle.std.specs.Prelude.{length};
 ghost use Rattle.models.specs.Problem.{problem};
 ghost use Rattle.plan.specs.Plan.{split};

@@ -1,4 +1,6 @@
 // The tails of two routes of a plan exchanged, in the plan's two slices.
+#![tactic(auto)]
+
 ghost use Rattle.std.specs.Prelude.{◌≡◌, ◌≤◌, ◌<◌, length};
 ghost use Rattle.plan.specs.Plan.{Holds, Lent, HasPosition, split, total, exchange_tails};
 

@@ -1,5 +1,7 @@
 // The cheapest place for a stop in one route (local_search/route_minimization.rs, a turn of the loop over routes of `Pool::cheapest`): every position,
 // where the route has room and keeps its windows.
+#![tactic(auto)]
+
 ghost use Rattle.std.specs.Prelude.{◌≡◌, [], suc, ◌<◌, ◌≤◌, length};
 ghost use Rattle.laws.specs.Loops.{loop};
 ghost use Rattle.models.specs.Customer.{customers};

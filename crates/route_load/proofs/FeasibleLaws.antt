@@ -50,28 +50,31 @@ module _ (demand : List ℤ) (route : List ℕ) where
     one_back : to_z w32 (of_z w32 (demand_at demand (get_or route i 0))) ≡ demand_at demand (get_or route i 0)
     one_back = to_z-of_z w32 (demand_at demand (get_or route i 0)) (sfits_abs w32 (demand_at demand (get_or route i 0)) (omega (arith, l.demands.each (get_or route i 0))))
 
-    whole_fits : SFits w32 (z +ℤ demand_at demand (get_or route i 0))
+    pub whole_fits : SFits w32 (z +ℤ demand_at demand (get_or route i 0))
     whole_fits = sfits_abs w32 (z +ℤ demand_at demand (get_or route i 0)) (omega (arith, sum_small, l.places.few))
 
     pub sum_fits : SFits w32 (z +ℤ to_z w32 (of_z w32 (demand_at demand (get_or route i 0))))
     sum_fits = rw one_back whole_fits
 
+    pub loading_on : Loading demand route (z +ℤ demand_at demand (get_or route i 0)) (i + 1)
+    loading_on = record {
+      demands = l.demands;
+      places = l.places;
+      within = omega arith;
+      small = sum_small;
+      same = fold_more (adds demand) 0 route (pos 0) z i l.same h;
+    }
+
     pub loading_more : Loading demand route (to_z w32 (of_z w32 (z +ℤ to_z w32 (of_z w32 (demand_at demand (get_or route i 0)))))) (i + 1)
     loading_more =
         rw (one_back, to_z-of_z w32 (z +ℤ demand_at demand (get_or route i 0)) whole_fits)
-        (record {
-          demands = l.demands;
-          places = l.places;
-          within = omega arith;
-          small = sum_small;
-          same = fold_more (adds demand) 0 route (pos 0) z i l.same h;
-        })
+        loading_on
 
   pub loading_end : (z : ℤ) (i : ℕ) → Loading demand route z i → length route ≤ i → z ≡ load demand route
   unfolding load
   loading_end z i l h = fold_end (adds demand) 0 route (pos 0) z i l.same h
 
-pub ruleset loading_laws = (rules, loading_start, loading_stop, sum_fits, loading_more, loading_end)
+pub ruleset loading_laws = (rules, loading_start, loading_stop, sum_fits, whole_fits, loading_more, loading_on, loading_end)
 
 -- ---- tests on loads: what is kept in an i32 is the number itself
 

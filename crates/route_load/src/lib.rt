@@ -1,4 +1,6 @@
 // The load of a route against the capacity. The definitions of a feasible route, its load and its check, are in specs/, with their laws.
+#![tactic(auto)]
+
 ghost use Rattle.std.specs.Prelude.{◌≡◌, ◌<◌, ◌≤◌, length, nat_abs, ◌+ℤ◌};
 ghost use Rattle.models.specs.Problem.{of_demand, Stops, Demands};
 ghost use Rattle.route_load.specs.Feasible.{demand_at, load, fits, has_room};

@@ -1,4 +1,6 @@
 // Route minimisation with an ejection pool (local_search/route_minimization.rs, `minimize_routes`). Its definition and the theorems about it are in `minimization`.
+#![tactic(auto)]
+
 ghost use Rattle.std.specs.Prelude.{length};
 ghost use Rattle.models.specs.Problem.{problem};
 ghost use Rattle.plan.specs.Plan.{split};

@@ -1,9 +1,11 @@
 // The routes by length, stable, one pick after the other: no cells are needed for the order.
+#![tactic(auto)]
+
 ghost use Rattle.std.specs.Prelude.{◌≡◌};
 ghost use Rattle.route_order.specs.Order.{is_after, shorter, considered, next_pick};
 
 // A route and its length, or none.
-#[derive(Drop)]
+#[derive(Clone, Copy)]
 pub enum Pick {
     Nothing,
     At(usize, u16),

@@ -1,4 +1,6 @@
 // The pool that an attempt at a route starts with (local_search/route_minimization.rs, `empty_into`): the route's stops, the last of them on top.
+#![tactic(auto)]
+
 ghost use Rattle.std.specs.Prelude.{◌≡◌, reverse, ◌<◌, ◌≤◌, length};
 ghost use Rattle.plan.specs.Plan.{Lent, split, route};
 ghost use Rattle.ejection_made.specs.Made.{stack};

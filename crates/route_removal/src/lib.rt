@@ -1,4 +1,6 @@
 // Whole routes taken out of a plan's two slices: one route, or all empty ones.
+#![tactic(auto)]
+
 ghost use Rattle.std.specs.Prelude.{◌≡◌, ◌∷◌, ◌++◌, [], ◌-◌, ◌<◌, length, get_or};
 ghost use Rattle.laws.specs.Edits.{erase};
 ghost use Rattle.plan.specs.Plan.{Holds, Lent, split, total, padded, drop_zero};

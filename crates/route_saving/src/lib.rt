@@ -1,4 +1,6 @@
 // What is saved where a route goes (local_search/route_elimination.rs, `saved` in the body of `for r in order`): its worth and its fixed cost.
+#![tactic(auto)]
+
 ghost use Rattle.std.specs.Prelude.{◌≡◌};
 ghost use Rattle.floats.specs.Binary64.{◌⊕◌};
 ghost use Rattle.models.specs.Vehicle.{fixed_cost_in_distance};

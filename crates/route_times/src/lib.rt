@@ -1,5 +1,7 @@
 // The times along a route in work cells, for the quick test of its positions: when each stop is left, and how late each may be reached; both before
 // the positions of the route are tried.
+#![tactic(auto)]
+
 ghost use Rattle.std.specs.Prelude.{◌≡◌, [], ◌≤◌, ◌<◌, length, take, drop};
 ghost use Rattle.models.specs.Customer.{customers};
 ghost use Rattle.models.specs.RouteLimits.{limits_of};

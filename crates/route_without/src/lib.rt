@@ -1,4 +1,6 @@
 // The plan without a route, whose stops are emptied into the others (local_search/route_minimization.rs, in the body of the round in `minimize_routes`).
+#![tactic(auto)]
+
 ghost use Rattle.std.specs.Prelude.{◌≡◌, ◌<◌, length};
 ghost use Rattle.models.specs.Problem.{problem};
 ghost use Rattle.plan.specs.Plan.{split};

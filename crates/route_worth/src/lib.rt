@@ -1,4 +1,6 @@
 // What a route is worth, or that it does not pass (evaluation/mod.rs, `route_eval` and `effective_cost`).
+#![tactic(auto)]
+
 ghost use Rattle.std.specs.Prelude.{◌≡◌, ◌<◌};
 ghost use Rattle.models.specs.Customer.{customers};
 ghost use Rattle.models.specs.Problem.{matrix, Fit, Stops};

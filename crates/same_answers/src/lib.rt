@@ -1,4 +1,6 @@
 // Whether two answers as they are stored, or two plans, are the same.
+#![tactic(auto)]
+
 ghost use Rattle.std.specs.Prelude.{◌≡◌};
 ghost use Rattle.planner.specs.Told.{slices_of};
 ghost use Rattle.stored_answers.specs.Answers.{same_stored, same_rest, same_cells, same_plan};

@@ -1,4 +1,6 @@
 // Prints what the sheet on standard input prints: its listing, or the line of its refusal.
+#![tactic(auto)]
+
 ghost use Rattle.std.specs.Prelude.{◌≡◌, length};
 
 use sheet_print::{listing_room, print_sheet};

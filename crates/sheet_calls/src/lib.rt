@@ -1,4 +1,6 @@
 // The two calls of a sheet, minimise and then eliminate, and the listing of the plan that they leave.
+#![tactic(auto)]
+
 ghost use Rattle.std.specs.Prelude.{◌≡◌, ◌≤◌, length};
 ghost use Rattle.models.specs.Problem.{problem};
 ghost use Rattle.planner.specs.Told.{slices_of};

@@ -1,10 +1,14 @@
 // Prints what several sheets print, one after the other. Standard input holds each sheet behind its number of bytes, in decimal, and a line end;
 // README.md says how it is made. What must be printed is the original's answer to each.
+#![tactic(auto)]
+
 ghost use Rattle.std.specs.Prelude.{◌≡◌, length};
 
-use libc::STDOUT_FILENO;
 use sheet_print::{listing_room, print_sheet};
 use stored::text::number;
+
+// Standard output.
+const STDOUT: i32 = 1;
 
 // Room for the sheets.
 fn cases_room() -> [u8; 131072]
@@ -15,7 +19,7 @@ fn cases_room() -> [u8; 131072]
 
 // The sheet's number of bytes is not there, or is not that of what follows.
 fn print_fault() {
-    io::write_all(STDOUT_FILENO, b"a case is not of the form\n");
+    io::write_all(STDOUT, b"a case is not of the form\n");
 }
 
 // Prints what each sheet prints.

@@ -1,4 +1,6 @@
 // What a cell of a slice holds of a place's window and penalty, and of a stop.
+#![tactic(auto)]
+
 ghost use Rattle.std.specs.Prelude.{◌≡◌};
 ghost use Rattle.sheet_format.specs.Form.{ready_cell as Form·ready-cell, due_cell as Form·due-cell, penalty_cell as Form·penalty-cell, flags_cell as Form·flags-cell};
 ghost use Rattle.sheet_format.specs.Form.{stop_cell as Form·stop-cell};

@@ -1,4 +1,6 @@
 // Reads the draws of a sheet into a lent slice.
+#![tactic(auto)]
+
 ghost use Rattle.std.specs.Prelude.{◌≡◌, ◌≤◌, length, take};
 ghost use Rattle.sheet_text.specs.Text.{before, repeat, lf};
 ghost use Rattle.sheet_text.specs.Text.{number as Text·number};

@@ -1,4 +1,6 @@
 // The second call of a sheet, eliminate, and the listing of the plan that it leaves.
+#![tactic(auto)]
+
 ghost use Rattle.std.specs.Prelude.{◌≡◌, ◌≤◌, length};
 ghost use Rattle.models.specs.Problem.{problem};
 ghost use Rattle.planner.specs.Told.{slices_of};

@@ -1,4 +1,6 @@
 // The fields of a line: a number, one that may be negative, one that may be none, each with the byte behind it.
+#![tactic(auto)]
+
 ghost use Rattle.std.specs.Prelude.{◌≡◌};
 ghost use Rattle.sheet_text.specs.Text.{before};
 ghost use Rattle.sheet_text.specs.Text.{number as Text·number, signed as Text·signed, optional as Text·optional};

@@ -9,25 +9,25 @@ use sheet_fields::{number_before, optional_before, signed_before};
 use sheet_text::numbers::{Next, NumberAt, OptionalAt, SignedAt, byte, number, peek};
 
 // A place's line: its demand, and what the evaluation of a route reads of it.
-#[derive(Drop)]
+#[derive(Clone, Copy)]
 pub struct Place {
     pub demand: i32,
     pub customer: Customer,
 }
 
-#[derive(Drop)]
+#[derive(Clone, Copy)]
 pub enum WindowAt {
     Got(Window, usize),
     Bad,
 }
 
-#[derive(Drop)]
+#[derive(Clone, Copy)]
 pub enum PenaltyAt {
     Got(Penalty, usize),
     Bad,
 }
 
-#[derive(Drop)]
+#[derive(Clone, Copy)]
 pub enum PlaceAt {
     Got(Place, usize),
     Bad,

@@ -1,4 +1,6 @@
 // Reads words, and the heading of a section.
+#![tactic(auto)]
+
 ghost use Rattle.std.specs.Prelude.{◌≡◌};
 ghost use Rattle.sheet_text.specs.Text.{word as Text·word};
 ghost use Rattle.sheet_text.specs.Told.{told_next, told_count};

@@ -1,4 +1,6 @@
 // A text read into slices that are lent for it, and the listing of the plan that is made of them.
+#![tactic(auto)]
+
 ghost use Rattle.std.specs.Prelude.{◌≡◌, ◌≤◌, length};
 ghost use Rattle.sheet_reader.specs.Cells.{columns_of, Room as ColumnRoom};
 ghost use Rattle.listing.specs.Written.{Written};

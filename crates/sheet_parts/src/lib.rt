@@ -1,4 +1,6 @@
 // The parts that a sheet fills of the slices that it was read into, and the plan made of them.
+#![tactic(auto)]
+
 ghost use Rattle.std.specs.Prelude.{◌≡◌, ◌*◌, ◌≤◌, length, take};
 ghost use Rattle.sheet_reader.specs.Cells.{columns_of, Room as ColumnRoom};
 ghost use Rattle.sheet_whole.specs.Whole.{sheet_in};

@@ -1,4 +1,6 @@
 // A sheet from bytes to bytes: read, minimised, eliminated, listed.
+#![tactic(auto)]
+
 ghost use Rattle.std.specs.Prelude.{◌≡◌, ◌≤◌, length};
 ghost use Rattle.listing.specs.Written.{Written};
 ghost use Rattle.sheet_answers.specs.Printed.{printed};
@@ -8,7 +10,7 @@ use sheet_listing::list_read;
 use sheet_room::{f64s_64, f64s_2048, f64s_4096, i32s_64, u8s_64, u16s_64, u16s_8192, u64s_1024};
 
 // There is no room for what may be printed, or so many bytes are printed.
-#[derive(Drop)]
+#[derive(Clone, Copy)]
 pub enum Printed {
     NoRoom,
     Bytes(usize),

@@ -1,8 +1,12 @@
 // Writes what a text prints to standard output, for the programs over sheets.
+#![tactic(auto)]
+
 ghost use Rattle.std.specs.Prelude.{◌≡◌, length};
 
-use libc::STDOUT_FILENO;
 use sheet_planner::{Printed, plan_sheet};
+
+// Standard output.
+const STDOUT: i32 = 1;
 
 // Room for what is printed.
 pub fn listing_room() -> [u8; 6000]
@@ -17,7 +21,7 @@ pub fn print_sheet(out: &mut [u8], text: &[u8]) {
     match p {
         Printed::NoRoom => {}
         Printed::Bytes(n) => {
-            io::write_all(STDOUT_FILENO, &out[..n]);
+            io::write_all(STDOUT, &out[..n]);
         }
     }
 }

@@ -1,4 +1,6 @@
 // Reads the first five sections of a sheet, the problem, into lent slices.
+#![tactic(auto)]
+
 ghost use Rattle.std.specs.Prelude.{◌≡◌, ◌≤◌, length};
 ghost use Rattle.sheet_format.specs.Form.{whole_problem};
 ghost use Rattle.sheet_reader.specs.Cells.{columns_of, Room};
@@ -12,7 +14,7 @@ use sheet_text::words::Count;
 use sheet_vehicle::{VehicleAt, vehicle};
 
 // How many places there are, how many rows of times, and the vehicle.
-#[derive(Drop)]
+#[derive(Clone, Copy)]
 pub struct Head {
     pub n: usize,
     pub timed: usize,
@@ -20,7 +22,7 @@ pub struct Head {
 }
 
 // The head of a problem and the position after it, or the number of a refusal.
-#[derive(Drop)]
+#[derive(Clone, Copy)]
 pub enum ProblemAt {
     Got(Head, usize),
     Refused(u8),

@@ -1,4 +1,6 @@
 // Reads the section of the break, and puts the break into the vehicle.
+#![tactic(auto)]
+
 ghost use Rattle.std.specs.Prelude.{◌≡◌};
 ghost use Rattle.sheet_format.specs.Form.{rest_line, break, with_rest};
 ghost use Rattle.sheet_rest.specs.Told.{told_rest};
@@ -9,7 +11,7 @@ use sheet_headings::heading;
 use sheet_text::numbers::NumberAt;
 use sheet_text::words::Count;
 
-#[derive(Drop)]
+#[derive(Clone, Copy)]
 pub enum RestAt {
     Got(Rest, usize),
     Refused(u8),

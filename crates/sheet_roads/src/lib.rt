@@ -1,4 +1,6 @@
 // Reads the sections of the distances and of the times into lent slices.
+#![tactic(auto)]
+
 ghost use Rattle.std.specs.Prelude.{◌≡◌, ◌*◌, ◌≤◌, length, take};
 ghost use Rattle.sheet_text.specs.Text.{map_reading};
 ghost use Rattle.sheet_format.specs.Form.{distances as Form·distances, times as Form·times, roads as Form·roads};
@@ -12,7 +14,7 @@ use sheet_text::numbers::Next;
 use sheet_text::words::Count;
 
 // The position after a section, or the number of a refusal.
-#[derive(Drop)]
+#[derive(Clone, Copy)]
 pub enum Section {
     At(usize),
     Refused(u8),

@@ -1,5 +1,7 @@
 // Room for a sheet of 64 places, 64 routes, 64 stops and 1,024 draws, and for the work on it. Each array is made by a function that ensures its length
 // alone.
+#![tactic(auto)]
+
 ghost use Rattle.std.specs.Prelude.{◌≡◌, length};
 
 // The u16 work cells: the least that row 9 leaves.

@@ -12,7 +12,7 @@ use sheet_text::numbers::{Next, NumberAt, byte, number};
 use sheet_text::words::{Count, ending};
 
 // How many routes there are, how many stops in all, and the position after them; or the number of a refusal.
-#[derive(Drop)]
+#[derive(Clone, Copy)]
 pub enum PlanAt {
     Got(usize, usize, usize),
     Refused(u8),

@@ -1,4 +1,6 @@
 // The section of the run, and the end of the sheet.
+#![tactic(auto)]
+
 ghost use Rattle.std.specs.Prelude.{◌≡◌};
 ghost use Rattle.sheet_format.specs.Form.{run_line, last_run};
 ghost use Rattle.sheet_format.specs.Form.{run as Form·run};
@@ -10,7 +12,7 @@ use sheet_text::numbers::NumberAt;
 use sheet_text::words::Count;
 
 // M, the step limit, K, the clock, and the position after them; or the number of a refusal.
-#[derive(Drop)]
+#[derive(Clone, Copy)]
 pub enum RunAt {
     Got(usize, u64, usize),
     Refused(u8),

@@ -1,4 +1,6 @@
 // Reads a square of numbers, as many lines as each has numbers, into lent cells row by row.
+#![tactic(auto)]
+
 ghost use Rattle.std.specs.Prelude.{◌≡◌, ◌+◌, ◌*◌, ◌≤◌, length, take};
 ghost use Rattle.floats.specs.Whole.{nat};
 ghost use Rattle.sheet_text.specs.Text.{map_reading, line};

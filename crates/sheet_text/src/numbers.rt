@@ -5,28 +5,28 @@ ghost use Rattle.sheet_text.specs.Text.{byte as Text·byte, digits as Text·digi
 ghost use Rattle.sheet_text.specs.Told.{told_next, told_number, Short};
 
 // The position after what was read, or 11.
-#[derive(Drop)]
+#[derive(Clone, Copy)]
 pub enum Next {
     At(usize),
     Bad,
 }
 
 // A number and the position after it, or 11.
-#[derive(Drop)]
+#[derive(Clone, Copy)]
 pub enum NumberAt {
     Got(u32, usize),
     Bad,
 }
 
 // A number that may be negative.
-#[derive(Drop)]
+#[derive(Clone, Copy)]
 pub enum SignedAt {
     Got(i32, usize),
     Bad,
 }
 
 // A number or a lone minus sign.
-#[derive(Drop)]
+#[derive(Clone, Copy)]
 pub enum OptionalAt {
     Got(u32, usize),
     Nothing(usize),
@@ -34,7 +34,7 @@ pub enum OptionalAt {
 }
 
 // The value of some digits, and the position after them.
-#[derive(Drop)]
+#[derive(Clone, Copy)]
 struct Run {
     value: u32,
     at: usize,

@@ -3,7 +3,7 @@ ghost use Rattle.std.specs.Prelude.{◌≡◌};
 ghost use Rattle.sheet_text.specs.Text.{ending as Text·ending};
 
 // A count and the position after its line, or the number of a refusal.
-#[derive(Drop)]
+#[derive(Clone, Copy)]
 pub enum Count {
     Got(usize, usize),
     Refused(u8),

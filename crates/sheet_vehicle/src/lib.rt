@@ -1,4 +1,6 @@
 // Reads the section of the vehicle.
+#![tactic(auto)]
+
 ghost use Rattle.std.specs.Prelude.{◌≡◌};
 ghost use Rattle.sheet_format.specs.Form.{limit as Form·limit, vehicle_line};
 ghost use Rattle.sheet_format.specs.Form.{vehicle as Form·vehicle};
@@ -10,13 +12,13 @@ use sheet_headings::heading;
 use sheet_text::numbers::{NumberAt, OptionalAt, SignedAt};
 use sheet_text::words::Count;
 
-#[derive(Drop)]
+#[derive(Clone, Copy)]
 pub enum LimitAt {
     Got(Limit, usize),
     Bad,
 }
 
-#[derive(Drop)]
+#[derive(Clone, Copy)]
 pub enum VehicleAt {
     Got(Vehicle, usize),
     Refused(u8),

@@ -8,7 +8,7 @@ use sheet_run::{RunAt, last_run};
 use sheet_text::words::Count;
 
 // How many draws, routes and stops there are, M, K, and the position after the sheet; or the number of a refusal.
-#[derive(Drop)]
+#[derive(Clone, Copy)]
 pub enum RequestAt {
     Got(usize, usize, usize, usize, u64, usize),
     Refused(u8),

@@ -8,7 +8,7 @@ use crate::request::{RequestAt, request};
 use sheet_problem::{Head, ProblemAt, problem};
 
 // The head of the problem, how many draws, routes and stops there are, M, K, and the position after the sheet; or the number of a refusal.
-#[derive(Drop)]
+#[derive(Clone, Copy)]
 pub enum SheetAt {
     Got(Head, usize, usize, usize, usize, u64, usize),
     Refused(u8),

@@ -1,4 +1,6 @@
 // Row 6 of the refusal table (entry, specs/Table.antt) in code: the stops of a plan or of a route.
+#![tactic(auto)]
+
 ghost use Rattle.std.specs.Prelude.{◌≡◌, [], ◌∷◌, ◌++◌, true, not, eqb};
 ghost use Rattle.laws.specs.Searches.{any};
 ghost use Rattle.models.specs.Problem.{of_distances};

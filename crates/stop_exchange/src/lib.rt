@@ -1,4 +1,6 @@
 // Two stops of two routes exchanged, where both routes stay feasible.
+#![tactic(auto)]
+
 ghost use Rattle.std.specs.Prelude.{◌≡◌};
 ghost use Rattle.models.specs.RouteLimits.{limits_of};
 ghost use Rattle.models.specs.Problem.{problem, Admitted};

@@ -1,4 +1,6 @@
 // A stop of a route moved into the other routes of the plan (local_search/route_elimination.rs, the body of `for c in moving`).
+#![tactic(auto)]
+
 ghost use Rattle.std.specs.Prelude.{◌≡◌, ◌+◌, ◌<◌, length};
 ghost use Rattle.models.specs.Problem.{problem};
 ghost use Rattle.plan.specs.Plan.{split, total};
@@ -13,7 +15,7 @@ use reinsertion_candidates::Move;
 use route_cost::Best;
 
 // What was added to the worth of the other routes, or nothing once a stop has no place.
-#[derive(Drop)]
+#[derive(Clone, Copy)]
 pub enum Sum {
     Nothing,
     At(f64),

@@ -6,7 +6,7 @@ use crate::text::{FAULT, number, number_to};
 use stored_values::{float_of, int_of};
 
 // How many elements were read, and the position after the last one.
-#[derive(Drop)]
+#[derive(Clone, Copy)]
 pub struct Filled {
     pub count: usize,
     pub next: usize,

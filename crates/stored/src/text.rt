@@ -3,14 +3,14 @@
 ghost use Rattle.std.specs.Prelude.{◌≤◌};
 
 // A number, and the position after it.
-#[derive(Drop)]
+#[derive(Clone, Copy)]
 pub struct Read {
     pub value: u64,
     pub next: usize,
 }
 
 // A number with one digit more, or nothing where the byte is no digit or the number does not fit.
-#[derive(Drop)]
+#[derive(Clone, Copy)]
 enum Appended {
     No,
     To(u64),

@@ -1,4 +1,6 @@
 // Answers as they are stored. Whether two are the same is told in same_answers.
+#![tactic(auto)]
+
 ghost use Rattle.std.specs.Prelude.{◌≡◌};
 ghost use Rattle.planner.specs.Told.{replied_told};
 ghost use Rattle.planner_questions.specs.Told.{checked_told, evaluated_told, number_told};
@@ -12,7 +14,7 @@ use planner_questions::{Checked, Evaluated, Number};
 use stored_values::bits_of;
 
 // An answer as seven numbers: a tag, which is 0 for a refusal, and what an answer with that tag holds, floats by their bits. What it lacks is 0.
-#[derive(Drop)]
+#[derive(Clone, Copy)]
 pub struct Stored {
     pub tag: u64,
     pub a: u64,

@@ -1,4 +1,6 @@
 // Two tails of two routes exchanged, where both routes are feasible then and neither is empty.
+#![tactic(auto)]
+
 ghost use Rattle.std.specs.Prelude.{◌≡◌, ◌&&◌, ◌≤◌, length};
 ghost use Rattle.models.specs.RouteLimits.{limits_of};
 ghost use Rattle.models.specs.Problem.{problem, Admitted};

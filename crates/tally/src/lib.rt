@@ -1,8 +1,11 @@
 // What a replay of stored answers asked, counted and printed. Cells 0 to 9 of the counts are the kinds, cell 10 is their sum.
+#![tactic(auto)]
+
 ghost use Rattle.std.specs.Prelude.{◌≡◌, ◌<◌};
 ghost use Rattle.tally.specs.Tally.{one_more, counted, counted_if};
 
-use libc::STDOUT_FILENO;
+// Standard output.
+const STDOUT: i32 = 1;
 
 // One more, up to the last number.
 fn more(count: u64) -> u64
@@ -37,7 +40,7 @@ pub fn note(kind: usize, agrees: bool, asked: &mut [u64; 11], agreed: &mut [u64;
 }
 
 fn print(text: &[u8]) {
-    io::write_all(STDOUT_FILENO, text);
+    io::write_all(STDOUT, text);
 }
 
 fn print_kind(kind: usize) {
@@ -57,7 +60,7 @@ fn print_kind(kind: usize) {
 
 fn print_difference(number: u64, kind: usize) {
     print(b"call ");
-    io::print_decimal(STDOUT_FILENO, number);
+    io::print_decimal(STDOUT, number);
     print(b", ");
     print_kind(kind);
     print(b", differs\n");
@@ -69,9 +72,9 @@ fn print_kinds(asked: &[u64; 11], agreed: &[u64; 11]) {
     while kind < 10 {
         print_kind(kind);
         print(b": ");
-        io::print_decimal(STDOUT_FILENO, asked[kind]);
+        io::print_decimal(STDOUT, asked[kind]);
         print(b" calls, ");
-        io::print_decimal(STDOUT_FILENO, agreed[kind]);
+        io::print_decimal(STDOUT, agreed[kind]);
         print(b" agree\n");
         kind += 1;
     }
@@ -80,16 +83,16 @@ fn print_kinds(asked: &[u64; 11], agreed: &[u64; 11]) {
 // The whole tally, the sum last.
 pub fn print_tally(asked: &[u64; 11], agreed: &[u64; 11]) {
     print_kinds(asked, agreed);
-    io::print_decimal(STDOUT_FILENO, asked[10]);
+    io::print_decimal(STDOUT, asked[10]);
     print(b" calls replayed, ");
-    io::print_decimal(STDOUT_FILENO, agreed[10]);
+    io::print_decimal(STDOUT, agreed[10]);
     print(b" agree\n");
 }
 
 // The line for a case that is not of the form.
 pub fn print_fault(case: u64) {
     print(b"case ");
-    io::print_decimal(STDOUT_FILENO, case);
+    io::print_decimal(STDOUT, case);
     print(b" is not of the form\n");
 }
 

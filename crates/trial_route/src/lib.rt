@@ -1,4 +1,6 @@
 // The route check on a trial route: a route with one stop put in. No copy is made: the walk goes over the front part, the stop, then the tail.
+#![tactic(auto)]
+
 ghost use Rattle.std.specs.Prelude.{◌≡◌, ◌<◌, ◌≤◌, ◌+◌, length, take, drop};
 ghost use Rattle.laws.specs.Edits.{insert_at};
 ghost use Rattle.models.specs.Customer.{customers};

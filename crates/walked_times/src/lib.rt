@@ -1,5 +1,7 @@
 // The times along a route (local_search/route_minimization.rs, `Pool::departures` and `Pool::latest_arrivals`): forward, when each stop is left; backward,
 // how late each may be reached.
+#![tactic(auto)]
+
 ghost use Rattle.std.specs.Prelude.{◌≡◌, ◌≤◌, ◌<◌, length, take, drop};
 ghost use Rattle.models.specs.Customer.{customers};
 ghost use Rattle.models.specs.Problem.{matrix, Fit, Stops};

@@ -1,4 +1,6 @@
 // The questions about the worth of one route, its evaluation and its cost: each is refused by the table, or answers.
+#![tactic(auto)]
+
 ghost use Rattle.std.specs.Prelude.{◌≡◌};
 ghost use Rattle.models.specs.Problem.{problem};
 ghost use Rattle.planner.specs.Calls.{public_route_eval, public_effective_cost};

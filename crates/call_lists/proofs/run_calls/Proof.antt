@@ -1,6 +1,6 @@
 -- `run_calls` meets its contract.
 use mathlib.Core.Path.{refl}
-use borrow.Author.Tests.{not_true, not-false}
+use borrow.Author.Tests.{not-true, not-false}
 use borrow.Author.Rules.{rules}
 use Rattle.laws.specs.Picks.{via}
 use Rattle.call_lists.proofs.run_calls.Statement.{statement}
@@ -28,7 +28,7 @@ same-length-6 : tie.Need-same-length-6
 same-length-6 c = refl
 
 returns : tie.Need-returns
-returns c = record { malformed = via _ _ _ c.before.well-formed-2.ensures (not_true _ c.if1.true); same = refl }
+returns c = record { malformed = via _ _ _ c.before.well-formed-2.ensures (not-true _ c.if1.true); same = refl }
 
 run-all-requires : tie.Need-run-all-requires
 run-all-requires c κs = (refl, via _ _ _ c.before.before.before.before.before.before.before.well-formed-2.ensures (not-false _ c.before.before.before.before.before.before.if1.false))

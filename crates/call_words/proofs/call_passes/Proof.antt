@@ -1,5 +1,5 @@
 -- `call_passes` meets its contract.
-use borrow.Author.Tests.{le-leb, lt-leb, not_true, not-false}
+use borrow.Author.Tests.{le-leb, lt-leb, not-true, not-false}
 use borrow.Author.Rules.{rules}
 use Rattle.laws.specs.Picks.{picks}
 use Rattle.call_words.specs.Words.{call_passes}
@@ -11,7 +11,7 @@ kind-passes-requires c κs = search rules
 
 returns : tie.Need-returns
 unfolding call_passes
-returns c = search (picks, not_true) depth 8
+returns c = search (picks, not-true) depth 8
 
 returns-2 : tie.Need-returns-2
 unfolding call_passes

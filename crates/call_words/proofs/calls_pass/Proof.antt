@@ -1,6 +1,6 @@
 -- `calls_pass` meets its contract.
 use Prim.Native.Nat.{◌-◌}
-use borrow.Author.Tests.{not_true, not-false}
+use borrow.Author.Tests.{not-true, not-false}
 use borrow.Author.Rules.{rules}
 use Rattle.laws.specs.Picks.{via}
 use Rattle.planner.specs.Told.{work_of}
@@ -24,7 +24,7 @@ call-passes-requires : tie.Need-call-passes-requires invariant-loop decreases-lo
 call-passes-requires c κs = search rules
 
 returns : tie.Need-returns invariant-loop decreases-loop
-returns c = search (judging_laws, via, not_true)
+returns c = search (judging_laws, via, not-true)
 
 returns-2 : tie.Need-returns-2 invariant-loop decreases-loop
 returns-2 c = search (judging_laws, via, not-false)

@@ -1,5 +1,5 @@
 -- `well_formed` meets its contract.
-use borrow.Author.Tests.{not_true, not-false}
+use borrow.Author.Tests.{not-true, not-false}
 use borrow.Author.Rules.{rules}
 use Rattle.laws.specs.Picks.{picks}
 use Rattle.call_words.specs.Words.{well_formed}
@@ -11,14 +11,14 @@ mul-if1 c = search rules
 
 returns : tie.Need-returns
 unfolding well_formed
-returns c = search (picks, not_true, not-false) depth 12
+returns c = search (picks, not-true, not-false) depth 12
 
 mul-if2 : tie.Need-overflow-mul-if2
 mul-if2 c = search rules
 
 returns-2 : tie.Need-returns-2
 unfolding well_formed
-returns-2 c = search (picks, not_true, not-false) depth 12
+returns-2 c = search (picks, not-true, not-false) depth 12
 
 add-is-product : tie.Need-overflow-add-is-product
 add-is-product c = search rules
@@ -28,14 +28,14 @@ is-product-requires c κs = search rules
 
 returns-3 : tie.Need-returns-3
 unfolding well_formed
-returns-3 c = search (picks, not_true, not-false) depth 12
+returns-3 c = search (picks, not-true, not-false) depth 12
 
 calls-pass-requires : tie.Need-calls-pass-requires
 calls-pass-requires c κs = search rules
 
 returns-4 : tie.Need-returns-4
 unfolding well_formed
-returns-4 c = search (picks, not_true, not-false) depth 12
+returns-4 c = search (picks, not-true, not-false) depth 12
 
 pub well-formed-spec : {M : Type 1} → statement M
 well-formed-spec =

@@ -1,0 +1,10 @@
+-- What the loops of `copy_part` keep.
+use Prim.Native.Nat.{◌-◌}
+use Rattle.cells.proofs.CellLaws.{Copying}
+use Rattle.cells.proofs.copy_part.Given as goal
+
+abbrev pub invariant-loop-i : goal.invariant-loop-i
+invariant-loop-i l = Copying l.initial.dst l.at l.src l.from l.n l.dst l.i
+
+abbrev pub decreases-loop-i : goal.decreases-loop-i
+decreases-loop-i l = l.n - l.i

@@ -1,0 +1,17 @@
+-- `max` meets its contract: what the check does not find alone.
+use Rattle.laws.specs.Picks.{picks}
+use Rattle.floats.specs.Binary64.{max}
+use Rattle.floats.specs.Functions.{nan_tested}
+use Rattle.float_functions.proofs.max.Goals as goal
+
+pub returns-then-a-b : goal.returns-then-a-b
+unfolding max
+returns-then-a-b c = search picks
+
+pub returns-then-b : goal.returns-then-b
+unfolding max
+returns-then-b c = search (picks, nan_tested)
+
+pub returns-else-b : goal.returns-else-b
+unfolding max
+returns-else-b c = search (picks, nan_tested)

@@ -1,0 +1,9 @@
+-- `considered` meets its contract: what the check does not find alone.
+use Rattle.route_order.proofs.OrderLaws.{considered_laws}
+use Rattle.route_order.proofs.considered.Goals as goal
+
+pub returns-then-is_after : goal.returns-then-is_after
+returns-then-is_after c = search considered_laws
+
+pub returns : goal.returns
+returns c = search considered_laws

@@ -1,0 +1,10 @@
+-- What the loops of `text::number` keep.
+use Prim.Native.Nat.{◌-◌}
+use lib.ListN.{length}
+use Rattle.stored.proofs.text.number.Given as goal
+
+abbrev pub invariant-loop-i : goal.invariant-loop-i
+invariant-loop-i l = Unit {0}
+
+abbrev pub decreases-loop-i : goal.decreases-loop-i
+decreases-loop-i l = length l.text - l.i

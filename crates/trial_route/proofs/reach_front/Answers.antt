@@ -1,0 +1,13 @@
+-- `reach_front` meets its contract: what the check does not find alone.
+use Rattle.evaluation.proofs.CheckLaws.{out_there, front_is}
+use Rattle.break_clock.proofs.StopLaws.{part_laws}
+use Rattle.trial_route.proofs.reach_front.Goals as goal
+
+pub slice_bounds-reach_all-end : goal.slice_bounds-reach_all-end
+slice_bounds-reach_all-end c = search part_laws
+
+pub reach_all-requires : goal.reach_all-requires
+reach_all-requires c = record { fit = search (part_laws, out_there); prev_lt_n = search (part_laws, out_there) }
+
+pub returns : goal.returns
+returns c = search front_is

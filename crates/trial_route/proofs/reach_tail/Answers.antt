@@ -1,0 +1,10 @@
+-- `reach_tail` meets its contract: what the check does not find alone.
+use Rattle.evaluation.proofs.CheckLaws.{tail_is}
+use Rattle.break_clock.proofs.StopLaws.{part_laws}
+use Rattle.trial_route.proofs.reach_tail.Goals as goal
+
+pub reach_all-requires : goal.reach_all-requires
+reach_all-requires c = record { fit = search part_laws; prev_lt_n = search part_laws }
+
+pub returns : goal.returns
+returns c = search tail_is

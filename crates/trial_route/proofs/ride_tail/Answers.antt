@@ -1,0 +1,10 @@
+-- `ride_tail` meets its contract: what the check does not find alone.
+use Rattle.break_clock.proofs.ScheduleLaws.{tail_few, tail_is}
+use Rattle.break_clock.proofs.StopLaws.{part_laws}
+use Rattle.trial_route.proofs.ride_tail.Goals as goal
+
+pub ride_all-requires : goal.ride_all-requires
+ride_all-requires c = record { fit = search (part_laws, tail_few); prev_lt_n = search (part_laws, tail_few) }
+
+pub returns : goal.returns
+returns c = search tail_is

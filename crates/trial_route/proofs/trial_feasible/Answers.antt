@@ -1,0 +1,22 @@
+-- `trial_feasible` meets its contract: what the check does not find alone.
+use Rattle.evaluation.proofs.CheckLaws.{trial_there, trial_feasible_laws}
+use Rattle.break_clock.proofs.ScheduleLaws.{trial_there as ride_there}
+use Rattle.trial_route.proofs.trial_feasible.Goals as goal
+
+pub returns-in_default-walked : goal.returns-in_default-walked
+returns-in_default-walked c = search trial_feasible_laws
+
+pub home_allowed-requires : goal.home_allowed-requires
+home_allowed-requires c = record { square = c.requires.fit.square; prev_lt_n = (search (trial_there, c.requires.depot_lt_n.0, c.requires.depot_lt_n.1, c.requires.depot_lt_n.3, c.trial_reached-walked, c.in-At.known_told-in-At-1-own), c.requires.depot_lt_n.0) }
+
+pub returns-in_default : goal.returns-in_default
+returns-in_default c = search trial_feasible_laws
+
+pub returns-in_default-ridden : goal.returns-in_default-ridden
+returns-in_default-ridden c = search trial_feasible_laws
+
+pub ride_home-e-requires : goal.ride_home-e-requires
+ride_home-e-requires c = record { square = c.requires.fit.square; prev_lt_n = (search (ride_there, c.requires.depot_lt_n.0, c.requires.depot_lt_n.1, c.requires.depot_lt_n.3, c.trial_ridden-ridden, c.in-At-ridden.known_told-in-At-ridden-1-own), c.requires.depot_lt_n.0) }
+
+pub returns : goal.returns
+returns c = search trial_feasible_laws

@@ -1,0 +1,13 @@
+-- What the loops of `departures` keep.
+use Prim.Native.Nat.{◌-◌}
+use lib.ListN.{length}
+use Rattle.models.specs.Customer.{customers}
+use Rattle.models.specs.Problem.{matrix}
+use Rattle.walked_times.proofs.DepartureLaws.{Leaving}
+use Rattle.walked_times.proofs.departures.Given as goal
+
+abbrev pub invariant-loop-i : goal.invariant-loop-i
+invariant-loop-i l = Leaving (customers l.service l.ready l.due l.penalty l.flags) (matrix l.n l.distances l.times) l.depot l.route l.initial.out l.out l.time l.prev l.i
+
+abbrev pub decreases-loop-i : goal.decreases-loop-i
+decreases-loop-i l = length l.route - l.i
