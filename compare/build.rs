@@ -1,6 +1,6 @@
 //! Links the port, and lays the original's files, unchanged, and our stand-ins out as one module tree in OUT_DIR.
 //!
-//! The port is the archive that `rt staticlib cobrwydd` writes, or the one that COBRWYDD_PORT names, or a shared library.
+//! The port is the archive that `rt lib` writes in crates/cobrwydd, or the one that COBRWYDD_PORT names, or a shared library.
 //! The original is read from the folder in COBRWYDD_RUST, by default ../shared/docs/src beside the repository.
 //! Where one of its files is missing, the tree is empty, `cfg(original)` is not set, and the program says so when run.
 
@@ -82,11 +82,11 @@ fn link_port(here: &Path) {
     println!("cargo::rerun-if-env-changed=COBRWYDD_PORT");
     let archive = match env::var_os("COBRWYDD_PORT") {
         Some(archive) => PathBuf::from(archive),
-        None => here.join("../target/staticlib/libcobrwydd.a"),
+        None => here.join("../crates/cobrwydd/out/libcobrwydd.a"),
     };
     println!("cargo::rerun-if-changed={}", archive.display());
     let Ok(archive) = archive.canonicalize() else {
-        println!("cargo::error=the port is not in {}: run 'rt staticlib cobrwydd' first", archive.display());
+        println!("cargo::error=the port is not in {}: run 'rt lib' in crates/cobrwydd first", archive.display());
         return;
     };
     let folder = archive.parent().unwrap().display();

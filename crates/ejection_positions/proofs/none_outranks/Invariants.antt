@@ -1,0 +1,16 @@
+-- What the loops of `none_outranks` keep.
+use Prim.Native.Nat.{suc, ◌-◌}
+use mathlib.Core.Bool.{not}
+use mathlib.Core.List.{[]}
+use lib.ListN.{length}
+use Rattle.models.specs.Problem.{matrix}
+use Rattle.route_cost.specs.Route.{insertion_cost}
+use Rattle.ejection.specs.Eject.{chosen, outranks}
+use Rattle.laws.specs.Passed.{Passed}
+use Rattle.ejection_positions.proofs.none_outranks.Given as goal
+
+abbrev pub invariant-loop-pos : goal.invariant-loop-pos
+invariant-loop-pos l = Passed (λ q. not (outranks l.failed (insertion_cost (matrix l.n l.distances []) l.depot l.kept q l.c) (chosen l.best))) (suc (length l.kept)) l.pos
+
+abbrev pub decreases-loop-pos : goal.decreases-loop-pos
+decreases-loop-pos l = suc (length l.kept) - l.pos

@@ -1,0 +1,23 @@
+-- `try_left` meets its contract: what the check does not find alone.
+use native.Mathlib.Omega.{arith}
+use Rattle.route_load.proofs.FeasibleLaws.{demands_own, stops_own, place_own}
+use Rattle.ejection_positions.proofs.PositionLaws.{kept_laws}
+use Rattle.ejection_positions.proofs.try_left.Goals as goal
+
+pub has_room-requires : goal.has_room-requires
+has_room-requires c =    (demands_own _ _ c.requires.admitted.demands, stops_own _ _ c.requires.admitted.demands _ c.requires.c_lt_n.1, place_own _ _ c.requires.admitted.demands _ c.requires.c_lt_n.0)
+
+pub returns-then-none_outranks : goal.returns-then-none_outranks
+returns-then-none_outranks c = search kept_laws
+
+pub try_positions-requires : goal.try_positions-requires
+try_positions-requires c = record { fit = c.requires.admitted.fit; depot_id_bound = (c.requires.admitted.depot_in, c.requires.c_lt_n.0, c.requires.c_lt_n.1, omega (arith, c.requires.c_lt_n.2, c.prepare.auto.cells), c.requires.c_lt_n.3) }
+
+pub returns-then-prepare : goal.returns-then-prepare
+returns-then-prepare c = search kept_laws
+
+pub returns-then-has_room : goal.returns-then-has_room
+returns-then-has_room c = search kept_laws
+
+pub returns : goal.returns
+returns c = search kept_laws

@@ -1,0 +1,6 @@
+-- `is_cheaper` meets its contract: what the check does not find alone.
+use Rattle.pool_cost.proofs.CostLaws.{cheaper_is}
+use Rattle.pool_cost.proofs.is_cheaper.Goals as goal
+
+pub returns : goal.returns
+returns c = search cheaper_is

@@ -1,0 +1,6 @@
+-- `build_trial` meets its contract: what the check does not find alone.
+use Rattle.reinsertion_worth.proofs.WorthLaws.{trial_built}
+use Rattle.reinsertion_worth.proofs.build_trial.Goals as goal
+
+pub returns : goal.returns
+returns c = search trial_built

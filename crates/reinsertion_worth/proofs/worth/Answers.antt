@@ -1,0 +1,9 @@
+-- `worth` meets its contract: what the check does not find alone.
+use Rattle.reinsertion_worth.proofs.WorthLaws.{worth_laws}
+use Rattle.reinsertion_worth.proofs.worth.Goals as goal
+
+pub returns-then-soft : goal.returns-then-soft
+returns-then-soft c = search worth_laws
+
+pub returns : goal.returns
+returns c = search worth_laws

@@ -1,0 +1,19 @@
+-- `try_one` meets its contract: what the check does not find alone.
+use Prim.Native.Nat.{◌-◌}
+use Rattle.ejection.specs.Eject.{try_out}
+use Rattle.route_ejection.proofs.LeaveLaws.{seeking_start, seeking_more, seeking_end, one_is}
+use borrow.Author.Rules.{rules}
+use native.Mathlib.Omega.{arith}
+use Rattle.route_ejection.proofs.try_one.Goals as goal
+
+pub loop-i-init : goal.loop-i-init
+loop-i-init c = seeking_start _ _ _ _ _ _ _ _ _ _ c.requires.sought c.requires.route_in_bounds.0 c.requires.route_in_bounds.1
+
+pub try_out-found-requires : goal.try_out-found-requires
+try_out-found-requires c = record { sought = c.loop-i.invariant.sought; route_in_bounds = (c.loop-i.invariant.work_room, c.loop-i.invariant.cells_room, search rules, search rules) }
+
+pub loop-i-preserved : goal.loop-i-preserved
+loop-i-preserved c =    seeking_more _ _ _ _ _ _ _ _ _ _ _ _ _ _ c.loop-i.invariant _ _ _ c.loop-i-test.true c.try_out-found.auto.work c.try_out-found.auto.cells c.try_out-found.ensures
+
+pub returns : goal.returns
+returns c = one_is _ _ _ _ _ _ _ (seeking_end _ _ _ _ _ _ _ _ _ _ _ _ _ _ c.loop-i.invariant (omega arith))
