@@ -1,6 +1,6 @@
 /* Cobrwydd's C interface: route reduction and route evaluation, proved.
  *
- * Link the archive that `rt staticlib cobrwydd` writes, target/staticlib/libcobrwydd.a. The functions allocate nothing, keep no
+ * Link the archive that `rt lib` writes in crates/cobrwydd, crates/cobrwydd/out/libcobrwydd.a. The functions allocate nothing, keep no
  * pointer, have no state, and may be called from several threads at once, each on slices of its own.
  *
  * A slice is a pointer and a number of elements, NAME and NAME_len. The pointer may not be null, also where the number is 0, and has the

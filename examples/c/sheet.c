@@ -1,7 +1,7 @@
 /* The day of document 01's sample sheet, planned from C: three places, the depot among them, and two routes of one stop each.
  *
- *   rt staticlib cobrwydd
- *   cc -Iinclude examples/c/sheet.c target/staticlib/libcobrwydd.a -o sheet && ./sheet
+ *   (cd crates/cobrwydd && rt lib)
+ *   cc -Iinclude examples/c/sheet.c crates/cobrwydd/out/libcobrwydd.a -o sheet && ./sheet
  *
  * prints 'returned 0: routes 1 steps 2 draws 0, stops 1 2, distance 25'. */
 #include <stdint.h>

@@ -1,0 +1,24 @@
+-- `calls_pass` meets its contract: what the check does not find alone.
+use Prim.Native.Nat.{◌-◌}
+use borrow.Author.Tests.{not-true, not-false}
+use Rattle.laws.specs.Picks.{via}
+use Rattle.call_words.proofs.FormLaws.{judging_laws}
+use Rattle.call_words.proofs.calls_pass.Goals as goal
+
+pub loop-i-init : goal.loop-i-init
+loop-i-init c = search judging_laws
+
+pub words_at-w-requires : goal.words_at-w-requires
+words_at-w-requires c = search judging_laws
+
+pub returns-then-not-call_passes : goal.returns-then-not-call_passes
+returns-then-not-call_passes c = search (judging_laws, via, not-true)
+
+pub returns-then-left-tape : goal.returns-then-left-tape
+returns-then-left-tape c = search (judging_laws, via, not-false)
+
+pub loop-i-preserved : goal.loop-i-preserved
+loop-i-preserved c = search (judging_laws, via, not-false)
+
+pub returns : goal.returns
+returns c = search judging_laws

@@ -1,0 +1,11 @@
+-- What the loops of `perturb` keep.
+use Prim.Native.Nat.{◌-◌}
+use Rattle.models.specs.Problem.{problem}
+use Rattle.random_moves.proofs.PerturbLaws.{Perturbing}
+use Rattle.random_moves.proofs.perturb.Given as goal
+
+abbrev pub invariant-loop-i : goal.invariant-loop-i
+invariant-loop-i l = Perturbing (problem l.n l.demand l.service l.ready l.due l.penalty l.flags l.distances l.times l.vehicle) l.n l.tape l.initial.lengths l.initial.stops l.initial.work l.drawn l.lengths l.stops l.work l.d l.i
+
+abbrev pub decreases-loop-i : goal.decreases-loop-i
+decreases-loop-i l = 100 - l.i

@@ -1,0 +1,28 @@
+-- `values_pass` meets its contract: what the check does not find alone.
+use Rattle.laws.specs.Picks.{picks}
+use Rattle.models.specs.Valid.{values_pass}
+use Rattle.refusal_rows.proofs.GroupLaws.{ready_demand, due_demand, penalty_demand, flags_demand}
+use Rattle.refusal_rows.proofs.values_pass.Goals as goal
+
+pub places_pass-requires : goal.places_pass-requires
+places_pass-requires c =    (ready_demand _ c.requires, due_demand _ c.requires, penalty_demand _ c.requires, flags_demand _ c.requires)
+
+pub returns-then-amounts_pass-3 : goal.returns-then-amounts_pass-3
+unfolding values_pass
+returns-then-amounts_pass-3 c = search picks depth 10
+
+pub returns-then-amounts_pass-2 : goal.returns-then-amounts_pass-2
+unfolding values_pass
+returns-then-amounts_pass-2 c = search picks depth 10
+
+pub returns-then-amounts_pass : goal.returns-then-amounts_pass
+unfolding values_pass
+returns-then-amounts_pass c = search picks depth 10
+
+pub returns-then-vehicle_passes : goal.returns-then-vehicle_passes
+unfolding values_pass
+returns-then-vehicle_passes c = search picks depth 10
+
+pub returns : goal.returns
+unfolding values_pass
+returns c = search picks depth 10

@@ -1,0 +1,15 @@
+-- What the loops of `stops_pass` keep.
+use Prim.Native.Nat.{◌-◌}
+use mathlib.Core.List.{[]}
+use lib.ListN.{length, get_or, take}
+use Rattle.laws.specs.Passed.{Passed}
+use Rattle.models.specs.Problem.{of_distances}
+use Rattle.entry.specs.Marks.{Marks}
+use Rattle.entry.specs.Table.{stop_passes}
+use Rattle.stop_checks.proofs.stops_pass.Given as goal
+
+abbrev pub invariant-loop-i : goal.invariant-loop-i
+invariant-loop-i l = Passed (λ k. stop_passes (of_distances l.n [] l.vehicle) (take k l.stops) (get_or l.stops k 0)) (length l.stops) l.i × Marks l.seen (take l.i l.stops)
+
+abbrev pub decreases-loop-i : goal.decreases-loop-i
+decreases-loop-i l = length l.stops - l.i
