@@ -8,16 +8,16 @@ use mathlib.Core.List.{List, [], ◌∷◌}
 use lib.ListN.{length, get_or, take, drop, length-drop}
 use lib.Seq.{length-take-le}
 use lib.Ieee.{Float, le}
-use Rattle.floats.specs.Binary64.{◌⊕◌}
-use Rattle.laws.specs.All.{All, all_take}
-use Rattle.laws.specs.Edits.{insert_at, all_insert_at}
-use Rattle.laws.specs.Walks.{walk, Walking, walking_start, walking_on, walking_stuck, walking_end, walk_insert, walk_rule}
-use Rattle.models.specs.declared.customer.Customer.{Customer}
-use Rattle.models.specs.declared.vehicle.Rest.TheVariants.{None as NoRest, Break}
-use Rattle.models.specs.declared.vehicle.VehicleBreak.{VehicleBreak}
-use Rattle.models.specs.Customer.{Customers, customer_at}
-use Rattle.models.specs.Problem.{DistanceMatrix, matrix, Fit, Stops}
-use Rattle.distance.specs.Matrix.{get, travel_time}
+use Rattle.labels.specs.floats.Binary64.{◌⊕◌}
+use Rattle.labels.specs.laws.All.{All, all_take}
+use Rattle.labels.specs.laws.Edits.{insert_at, all_insert_at}
+use Rattle.labels.specs.laws.Walks.{walk, Walking, walking_start, walking_on, walking_stuck, walking_end, walk_insert, walk_rule}
+use Rattle.labels.specs.models.declared.customer.Customer.{Customer}
+use Rattle.labels.specs.models.declared.vehicle.Rest.TheVariants.{None as NoRest, Break}
+use Rattle.labels.specs.models.declared.vehicle.VehicleBreak.{VehicleBreak}
+use Rattle.labels.specs.models.Customer.{Customers, customer_at}
+use Rattle.labels.specs.models.Problem.{DistanceMatrix, matrix, Fit, Stops}
+use Rattle.labels.specs.distance.Matrix.{get, travel_time}
 use Rattle.labels.specs.declared.Taken.TheVariants.{No as NotTaken}
 use Rattle.labels.specs.declared.Label.{Label}
 use Rattle.labels.specs.declared.Served.{Served}

@@ -9,8 +9,8 @@ use lib.Seq.{length-take-le, get_or-take, get_or-drop, take_all}
 use mir.Syntax.{w64}
 use mir.Val.{Fits}
 use borrow.Author.Rules.{rules}
-use Rattle.laws.specs.All.{All, all_of}
-use Rattle.models.specs.Problem.{Stops}
+use Rattle.labels.specs.laws.All.{All, all_of}
+use Rattle.labels.specs.models.Problem.{Stops}
 
 pub stop_below : (n : ℕ) (stops : List ℕ) (k : ℕ) → Stops n stops → k < length stops → get_or stops k 0 < n
 stop_below n stops k s h = s.each k h

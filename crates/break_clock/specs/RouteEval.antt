@@ -1,6 +1,6 @@
 -- What a route is worth (evaluation/mod.rs). Assumes nothing.
 use Rattle.std.specs.Prelude.{Float}
-use Rattle.floats.specs.Binary64.{◌⊕◌}
+use Rattle.labels.specs.floats.Binary64.{◌⊕◌}
 use Rattle.break_clock.specs.declared.route_eval.RouteEval.{RouteEval}
 
 -- RouteEval::priced_distance

@@ -2,13 +2,13 @@
 -- Assumes nothing.
 use Rattle.std.specs.Prelude.{ℕ, ◌+◌, List, cond, ◌||◌, Float}
 use Rattle.std.specs.Float.Ieee.{le}
-use Rattle.floats.specs.Binary64.{◌⊕◌, 0f}
-use Rattle.laws.specs.Walks.{walk}
-use Rattle.models.specs.declared.vehicle.Rest.TheVariants.{None as NoRest, Break}
-use Rattle.models.specs.declared.vehicle.VehicleBreak.{VehicleBreak}
-use Rattle.models.specs.Customer.{Customers, customer_at}
-use Rattle.models.specs.Problem.{DistanceMatrix}
-use Rattle.distance.specs.Matrix.{get, travel_time}
+use Rattle.labels.specs.floats.Binary64.{◌⊕◌, 0f}
+use Rattle.labels.specs.laws.Walks.{walk}
+use Rattle.labels.specs.models.declared.vehicle.Rest.TheVariants.{None as NoRest, Break}
+use Rattle.labels.specs.models.declared.vehicle.VehicleBreak.{VehicleBreak}
+use Rattle.labels.specs.models.Customer.{Customers, customer_at}
+use Rattle.labels.specs.models.Problem.{DistanceMatrix}
+use Rattle.labels.specs.distance.Matrix.{get, travel_time}
 use Rattle.labels.specs.declared.Taken.{Taken}
 use Rattle.labels.specs.declared.Taken.TheVariants.{No as NotTaken}
 use Rattle.labels.specs.declared.Label.{Label}

@@ -1,14 +1,15 @@
 // The clock of a route that carries a driver's break (evaluation/schedule.rs): two labels, one with the break still to take and one with it taken.
 ghost use Rattle.std.specs.Prelude.{◌≡◌, ◌<◌, ◌≤◌};
-ghost use Rattle.models.specs.Customer.{customers};
-ghost use Rattle.models.specs.Problem.{matrix, Square, Fit};
+ghost use Rattle.labels.specs.models.Customer.{customers};
+ghost use Rattle.labels.specs.models.Problem.{matrix, Square, Fit};
 ghost use Rattle.break_clock.specs.Schedule.{break_clock_new, clocked, push, finish_after, finish, set_out};
 
 use crate::route_eval::{Eval, RouteEval};
-use distance::travel_time;
+use labels::travel_time;
 use labels::{Label, Served, Taken, lives, served_from};
-use models::vehicle::{Rest, VehicleBreak};
-use place_record::customer_at;
+use labels::Rest;
+use labels::VehicleBreak;
+use labels::customer_at;
 
 // The clock of a route that is extended one stop at a time. Each step takes the clock and hands the next one back, the break beside it.
 #[derive(Clone, Copy)]

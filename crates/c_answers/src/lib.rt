@@ -3,15 +3,26 @@
 #![tactic(auto)]
 
 ghost use Rattle.std.specs.Prelude.{◌≡◌, [], length};
-ghost use Rattle.planner.specs.Calls.{answered};
-ghost use Rattle.planner.specs.Told.{replied_told};
-ghost use Rattle.planner_questions.specs.Told.{checked_told, number_told};
-ghost use Rattle.c_values.specs.Said.{values, says, put, checked_values, number_values, window_values, reduction_values};
+ghost use Rattle.c_evaluations.specs.planner.Calls.{answered};
+ghost use Rattle.c_evaluations.specs.planner.Told.{replied_told};
+ghost use Rattle.c_evaluations.specs.planner_questions.Told.{checked_told, number_told};
+ghost use Rattle.c_evaluations.specs.c_values.Said.{values, says, put, checked_values, number_values, window_values, reduction_values};
 
 use c_evaluations::put_numbers;
-use models::customer::Window;
-use planner::calls::Replied;
-use planner_questions::{Checked, Number};
+use c_evaluations::Window;
+use c_evaluations::Replied;
+use c_evaluations::Checked;
+use c_evaluations::Number;
+
+// Of the crates below, passed on to those above.
+pub use c_evaluations::checked_misfit;
+pub use c_evaluations::evaluated_misfit;
+pub use c_evaluations::list_misfit;
+pub use c_evaluations::number_misfit;
+pub use c_evaluations::reply_misfit;
+pub use c_evaluations::sheet_misfit;
+pub use c_evaluations::window_misfit;
+pub use c_evaluations::put_evaluated;
 
 // Yes or no.
 pub fn put_checked(found: &mut [u64], a: Checked) -> u8

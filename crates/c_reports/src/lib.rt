@@ -7,6 +7,12 @@ ghost use Rattle.c_reports.specs.Reports.{ran_code, printed_code, bytes_written}
 use call_lists::Ran;
 use sheet_planner::Printed;
 
+// Of the crates below, passed on to those above.
+pub use call_lists::minimise;
+pub use call_lists::eliminate;
+pub use call_lists::run_calls;
+pub use sheet_planner::plan_sheet;
+
 // The number for a list of calls.
 pub fn ran_code(ran: Ran) -> u8
     ensures { result ≡ ran_code ran }

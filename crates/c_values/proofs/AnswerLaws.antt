@@ -7,18 +7,18 @@ use lib.Dec.{eqb}
 use lib.ListN.{length, set}
 use lib.Ieee.{Float}
 use borrow.Author.Tests.{eq-eqb, ne_eqb, eqb-true}
-use Rattle.laws.specs.Loops.{cond_rule}
-use Rattle.floats.specs.Binary64.{0f}
-use Rattle.models.specs.declared.customer.TimeWindow.{TimeWindow}
-use Rattle.models.specs.declared.customer.Window.{Window}
-use Rattle.models.specs.declared.customer.Window.TheVariants.{None as NoWindow, Is as WindowIs}
-use Rattle.labels.specs.declared.Taken.{Taken}
-use Rattle.labels.specs.declared.Taken.TheVariants.{No as NotTaken, At as TakenAt}
-use Rattle.break_clock.specs.declared.route_eval.RouteEval.{RouteEval}
-use Rattle.break_clock.specs.declared.route_eval.Eval.{Eval}
-use Rattle.break_clock.specs.declared.route_eval.Eval.TheVariants.{Infeasible, Feasible}
-use Rattle.plan.specs.Plan.{Slices}
-use Rattle.local_search.specs.declared.rounds.Reduction.{Reduction}
+use Rattle.planner.specs.laws.Loops.{cond_rule}
+use Rattle.planner.specs.floats.Binary64.{0f}
+use Rattle.planner.specs.models.declared.customer.TimeWindow.{TimeWindow}
+use Rattle.planner.specs.models.declared.customer.Window.{Window}
+use Rattle.planner.specs.models.declared.customer.Window.TheVariants.{None as NoWindow, Is as WindowIs}
+use Rattle.planner.specs.labels.declared.Taken.{Taken}
+use Rattle.planner.specs.labels.declared.Taken.TheVariants.{No as NotTaken, At as TakenAt}
+use Rattle.planner.specs.break_clock.declared.route_eval.RouteEval.{RouteEval}
+use Rattle.planner.specs.break_clock.declared.route_eval.Eval.{Eval}
+use Rattle.planner.specs.break_clock.declared.route_eval.Eval.TheVariants.{Infeasible, Feasible}
+use Rattle.planner.specs.plan.Plan.{Slices}
+use Rattle.planner.specs.local_search.declared.rounds.Reduction.{Reduction}
 use Rattle.planner.specs.Calls.{Answer, refused, answered, Reply}
 use Rattle.planner.specs.declared.calls.Replied.{Replied}
 use Rattle.planner.specs.declared.calls.Replied.TheVariants.{Refused as NotReplied, Answered as RepliedAs}

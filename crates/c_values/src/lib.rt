@@ -1,3 +1,12 @@
 // The values of the C interface: what a function returns, and what it leaves in the slices that it is lent for its answer. This crate has no code: its
 // definitions are in specs/, its laws in proofs/.
 #![tactic(auto)]
+
+// Of the crates below, passed on to those above.
+pub use c_fits::checked_misfit;
+pub use c_fits::evaluated_misfit;
+pub use c_fits::list_misfit;
+pub use c_fits::number_misfit;
+pub use c_fits::reply_misfit;
+pub use c_fits::sheet_misfit;
+pub use c_fits::window_misfit;

@@ -5,11 +5,11 @@ use mathlib.Core.List.{List, [], ◌∷◌, ◌++◌, append_assoc}
 use native.Mathlib.Omega.{arith}
 use lib.ListN.{length, take, drop, set, length-append}
 use lib.Seq.{paste, sets-eq, take-length, length-take-le}
-use Rattle.laws.specs.Lists.{paste_on}
-use Rattle.local_search.specs.declared.rounds.Reduction.{Reduction}
-use Rattle.planner.specs.declared.calls.Replied.{Replied}
-use Rattle.planner.specs.declared.calls.Replied.TheVariants.{Refused as NotReplied, Answered as RepliedAs}
-use Rattle.planner.specs.Told.{replied_told}
+use Rattle.call_words.specs.laws.Lists.{paste_on}
+use Rattle.call_words.specs.local_search.declared.rounds.Reduction.{Reduction}
+use Rattle.call_words.specs.planner.declared.calls.Replied.{Replied}
+use Rattle.call_words.specs.planner.declared.calls.Replied.TheVariants.{Refused as NotReplied, Answered as RepliedAs}
+use Rattle.call_words.specs.planner.Told.{replied_told}
 use Rattle.call_words.specs.Words.{answer_words, put}
 
 pub put_four : (xs : List ℕ) (at a b c d : ℕ) → at + 4 ≤ length xs

@@ -2,11 +2,16 @@
 #![tactic(auto)]
 
 ghost use Rattle.std.specs.Prelude.{◌≡◌, [], ◌∷◌, ◌++◌, ◌+◌, ◌*◌, ◌≤◌, length};
-ghost use Rattle.planner.specs.Told.{replied_told};
+ghost use Rattle.call_words.specs.planner.Told.{replied_told};
 ghost use Rattle.call_words.specs.Words.{answer_words, put};
 
-use cells::copy_part;
-use planner::calls::Replied;
+use call_words::copy_part;
+use call_words::Replied;
+
+// Of the crates below, passed on to those above.
+pub use call_words::Vehicle;
+pub use call_words::well_formed;
+pub use call_words::words_at;
 
 // Four words from `at` on.
 fn put_words(answers: &mut [u64], at: usize, refusal: u64, routes: u64, steps: u64, draws: u64)

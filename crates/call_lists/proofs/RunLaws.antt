@@ -10,24 +10,24 @@ use lib.ListN.{length, take, drop, length-append}
 use lib.Seq.{take_all, take_at, drop_at, drop-drop, length-take-le}
 use lib.Dec.{eqb, leb}
 use borrow.Author.Tests.{eqb-true, ne_eqb, leb-true}
-use Rattle.laws.specs.All.{All, all_nil, all_cons, all_append}
-use Rattle.laws.specs.Loops.{cond_rule}
-use Rattle.laws.specs.Searches.{and_first, and_second}
-use Rattle.models.specs.Problem.{Problem}
-use Rattle.plan.specs.Plan.{Slices}
-use Rattle.local_search.specs.declared.rounds.Reduction.{Reduction}
-use Rattle.local_search.specs.Rounds.{Result}
-use Rattle.entry.specs.Table.{Work, Inputs, Row, table, first_applying, refusal}
-use Rattle.entry.specs.Given.{minimise_inputs, eliminate_inputs}
-use Rattle.call_words.specs.declared.Words.{Words}
-use Rattle.planner.specs.Calls.{Answer, refused, answered, Reply, reply, public_minimise, public_eliminate}
-use Rattle.planner.specs.Told.{work_of}
-use Rattle.planner.specs.Run.{Call, minimise, eliminate, call, run, Claim}
-use Rattle.call_words.specs.Words.{Buffers, plan_slices, both_slices, words_first, words_of, call_of, decoded, count_of, calls_in, kind_passes, call_passes, calls_pass, well_formed, answer_words, answer_in, answer_row, slices_row, recorded, rows, put, words_at}
+use Rattle.recorded_call.specs.laws.All.{All, all_nil, all_cons, all_append}
+use Rattle.recorded_call.specs.laws.Loops.{cond_rule}
+use Rattle.recorded_call.specs.laws.Searches.{and_first, and_second}
+use Rattle.recorded_call.specs.models.Problem.{Problem}
+use Rattle.recorded_call.specs.plan.Plan.{Slices}
+use Rattle.recorded_call.specs.local_search.declared.rounds.Reduction.{Reduction}
+use Rattle.recorded_call.specs.local_search.Rounds.{Result}
+use Rattle.recorded_call.specs.entry.Table.{Work, Inputs, Row, table, first_applying, refusal}
+use Rattle.recorded_call.specs.entry.Given.{minimise_inputs, eliminate_inputs}
+use Rattle.recorded_call.specs.call_words.declared.Words.{Words}
+use Rattle.recorded_call.specs.planner.Calls.{Answer, refused, answered, Reply, reply, public_minimise, public_eliminate}
+use Rattle.recorded_call.specs.planner.Told.{work_of}
+use Rattle.recorded_call.specs.planner.Run.{Call, minimise, eliminate, call, run, Claim}
+use Rattle.recorded_call.specs.call_words.Words.{Buffers, plan_slices, both_slices, words_first, words_of, call_of, decoded, count_of, calls_in, kind_passes, call_passes, calls_pass, well_formed, answer_words, answer_in, answer_row, slices_row, recorded, rows, put, words_at}
 use Rattle.call_lists.specs.Lists.{last_slices, replies_in, AllRun}
 use Rattle.recorded_call.specs.Recording.{Next, reply_at, Recorded}
-use Rattle.planner.proofs.Demand3.{demand_3}
-use Rattle.call_words.proofs.FormLaws.{words_more}
+use Rattle.recorded_call.proofs.of_planner.Demand3.{demand_3}
+use Rattle.recorded_call.proofs.of_call_words.FormLaws.{words_more}
 
 -- ---- the number of a refusal is not 0
 

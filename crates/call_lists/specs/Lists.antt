@@ -1,10 +1,10 @@
 -- What is promised of a list of calls in code. Assumes nothing.
 use Rattle.std.specs.Prelude.{ℕ, ◌≡◌, true, false, List, [], ◌∷◌, length}
-use Rattle.models.specs.Problem.{Problem}
-use Rattle.plan.specs.Plan.{Slices}
-use Rattle.planner.specs.Calls.{Reply}
-use Rattle.planner.specs.Run.{Claim}
-use Rattle.call_words.specs.Words.{Buffers, plan_slices, calls_in, well_formed, recorded, answer_row, rows}
+use Rattle.recorded_call.specs.models.Problem.{Problem}
+use Rattle.recorded_call.specs.plan.Plan.{Slices}
+use Rattle.recorded_call.specs.planner.Calls.{Reply}
+use Rattle.recorded_call.specs.planner.Run.{Claim}
+use Rattle.recorded_call.specs.call_words.Words.{Buffers, plan_slices, calls_in, well_formed, recorded, answer_row, rows}
 use Rattle.call_lists.specs.declared.Ran.{Ran}
 use Rattle.call_lists.specs.declared.Ran.TheVariants.{Malformed, Done as RanAll}
 

@@ -3,13 +3,17 @@
 #![tactic(auto)]
 
 ghost use Rattle.std.specs.Prelude.{◌≡◌, true};
-ghost use Rattle.models.specs.Problem.{problem};
-ghost use Rattle.call_words.specs.Words.{count_of, buffers, well_formed};
+ghost use Rattle.recorded_call.specs.models.Problem.{problem};
+ghost use Rattle.recorded_call.specs.call_words.Words.{count_of, buffers, well_formed};
 ghost use Rattle.call_lists.specs.Lists.{AllRun, Leaves};
 
-use call_words::well_formed;
-use models::vehicle::Vehicle;
+use recorded_call::well_formed;
+use recorded_call::Vehicle;
 use recorded_call::run_next;
+
+// Of the crates below, passed on to those above.
+pub use recorded_call::minimise;
+pub use recorded_call::eliminate;
 
 // How a list ends: its words are malformed, or so many calls were run.
 #[derive(Clone, Copy)]

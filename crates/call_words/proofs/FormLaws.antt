@@ -9,7 +9,7 @@ use lib.ListN.{length, drop, get_or}
 use lib.Seq.{get_or-drop, drop-drop}
 use lib.Dec.{eqb, leb}
 use borrow.Author.Tests.{eqb-true, eqb-false, eq-eqb, ne_eqb, le-leb, lt-leb}
-use Rattle.entry.specs.Table.{Work}
+use Rattle.planner.specs.entry.Table.{Work}
 use Rattle.call_words.specs.declared.Words.{Words}
 use Rattle.call_words.specs.Words.{words_first, words_of, call_passes, calls_pass, words_at}
 

@@ -3,3 +3,10 @@
 pub mod Words
 -- some lists and records
 pub mod WordCases
+-- crates below, passed on to those above
+pub use Rattle.planner.specs.laws as laws
+pub use Rattle.planner.specs.models as models
+pub use Rattle.planner.specs.plan as plan
+pub use Rattle.planner.specs.local_search as local_search
+pub use Rattle.planner.specs.entry as entry
+pub use Rattle.planner.specs as planner

@@ -1,8 +1,8 @@
 -- Lists of calls in code: what the lent words ask for, which of them are malformed, and what the recorded words hold. Assumes nothing.
 use Rattle.std.specs.Prelude.{ℕ, zero, suc, ◌+◌, ◌*◌, ◌-◌, ◌/◌, Bool, true, cond, ◌&&◌, List, [], ◌∷◌, ◌++◌, length, take, drop, get_or, eqb, leb, Float}
-use Rattle.plan.specs.Plan.{Slices}
-use Rattle.local_search.specs.declared.rounds.Reduction.{Reduction}
-use Rattle.entry.specs.Table.{Work}
+use Rattle.planner.specs.plan.Plan.{Slices}
+use Rattle.planner.specs.local_search.declared.rounds.Reduction.{Reduction}
+use Rattle.planner.specs.entry.Table.{Work}
 use Rattle.planner.specs.Calls.{Answer, refused, answered, Reply}
 use Rattle.planner.specs.Told.{slices_of, work_of}
 use Rattle.planner.specs.Run.{Call, minimise, eliminate}

@@ -7,12 +7,12 @@ use lib.ListN.{length, take, drop}
 use lib.Seq.{length-take-le}
 use lib.Ieee.{Float}
 use borrow.Author.Tests.{eq-eqb, ne_eqb}
-use Rattle.models.specs.Problem.{Problem}
-use Rattle.plan.specs.Plan.{Slices}
-use Rattle.ejection_pool.specs.Running.{allowance}
-use Rattle.planner.specs.Calls.{Reply, public_minimise, public_eliminate}
-use Rattle.planner.specs.Told.{work_of}
-use Rattle.planner.specs.Run.{call}
+use Rattle.minimise_call.specs.models.Problem.{Problem}
+use Rattle.minimise_call.specs.plan.Plan.{Slices}
+use Rattle.minimise_call.specs.ejection_pool.Running.{allowance}
+use Rattle.minimise_call.specs.planner.Calls.{Reply, public_minimise, public_eliminate}
+use Rattle.minimise_call.specs.planner.Told.{work_of}
+use Rattle.minimise_call.specs.planner.Run.{call}
 use Rattle.call_words.specs.declared.Words.{Words}
 use Rattle.call_words.specs.Words.{call_of}
 use Rattle.called.specs.Lent.{Lent}

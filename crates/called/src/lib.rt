@@ -3,17 +3,21 @@
 #![tactic(auto)]
 
 ghost use Rattle.std.specs.Prelude.{◌≡◌, length, drop};
-ghost use Rattle.models.specs.Problem.{problem};
-ghost use Rattle.planner.specs.Run.{call};
-ghost use Rattle.planner.specs.Told.{reply_of, slices_of};
+ghost use Rattle.minimise_call.specs.models.Problem.{problem};
+ghost use Rattle.minimise_call.specs.planner.Run.{call};
+ghost use Rattle.minimise_call.specs.planner.Told.{reply_of, slices_of};
 ghost use Rattle.call_words.specs.Words.{call_of};
 ghost use Rattle.called.specs.Lent.{Lent};
 
 use call_words::Words;
-use eliminate_call::eliminate;
-use minimise_call::minimise;
-use models::vehicle::Vehicle;
-use planner::calls::Replied;
+
+
+use minimise_call::Vehicle;
+use minimise_call::Replied;
+
+// Of the crates below, passed on to those above.
+pub use minimise_call::minimise;
+pub use eliminate_call::eliminate;
 
 // The call that the words are, with its tape beginning at `from`.
 pub fn run_call(

@@ -2,9 +2,15 @@
 #![tactic(auto)]
 
 ghost use Rattle.std.specs.Prelude.{◌≡◌, ◌-◌, ◌≤◌, ◌<◌, length};
-ghost use Rattle.laws.specs.Exchanges.{swap, swap_parts};
+ghost use Rattle.cell_shifts.specs.laws.Exchanges.{swap, swap_parts};
 
-use cells::copy_part;
+// Of the crates below, passed on to those above.
+pub use cell_shifts::clear;
+pub use cell_shifts::copy_part;
+pub use cell_shifts::cut;
+pub use cell_shifts::insert_at;
+
+
 
 // The cells at i and j are exchanged.
 pub fn swap(stops: &mut [u16], i: usize, j: usize)

@@ -6,9 +6,9 @@ use native.Mathlib.Numerals.{add-one}
 use native.Mathlib.Omega.{arith}
 use lib.ListN.{length, take, drop, get_or, set, length-set, length-drop}
 use lib.Seq.{take_all, get_or-drop}
-use Rattle.laws.specs.Lists.{shift_in, shift_out_part, length_part}
-use Rattle.laws.specs.Edits.{insert_at, cut}
-use Rattle.laws.specs.Overwrite.{mix, mix_more, mix_get, mix_end}
+use Rattle.cells.specs.laws.Lists.{shift_in, shift_out_part, length_part}
+use Rattle.cells.specs.laws.Edits.{insert_at, cut}
+use Rattle.cells.specs.laws.Overwrite.{mix, mix_more, mix_get, mix_end}
 
 -- ---- `shift_right`: the first i cells of t are those of c and t₀, and the next of them is carried
 

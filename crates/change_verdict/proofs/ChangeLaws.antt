@@ -3,16 +3,16 @@ use Prim.Native.Nat.{ℕ}
 use mathlib.Core.Path.{◌≡◌, sym, ap, ◌∙◌}
 use mathlib.Core.List.{List}
 use mathlib.Core.Bool.{Bool, true, false, ◌&&◌}
-use Rattle.laws.specs.Picks.{pick_eq, pick_ne}
-use Rattle.models.specs.Problem.{Problem}
-use Rattle.plan.specs.Plan.{Slices}
-use Rattle.ejection_pool.specs.Pool.{Allowance}
-use Rattle.entry.specs.Table.{Work}
-use Rattle.planner.specs.declared.calls.Replied.{Replied}
-use Rattle.planner.specs.Calls.{Reply, public_minimise, public_eliminate}
-use Rattle.planner.specs.Told.{replied_told, reply_of, slices_of}
-use Rattle.stored_answers.specs.declared.Stored.{Stored}
-use Rattle.stored_answers.specs.Answers.{reply_stored, same_stored, same_plan}
+use Rattle.minimise_call.specs.laws.Picks.{pick_eq, pick_ne}
+use Rattle.minimise_call.specs.models.Problem.{Problem}
+use Rattle.minimise_call.specs.plan.Plan.{Slices}
+use Rattle.minimise_call.specs.ejection_pool.Pool.{Allowance}
+use Rattle.minimise_call.specs.entry.Table.{Work}
+use Rattle.minimise_call.specs.planner.declared.calls.Replied.{Replied}
+use Rattle.minimise_call.specs.planner.Calls.{Reply, public_minimise, public_eliminate}
+use Rattle.minimise_call.specs.planner.Told.{replied_told, reply_of, slices_of}
+use Rattle.same_answers.specs.stored_answers.declared.Stored.{Stored}
+use Rattle.same_answers.specs.stored_answers.Answers.{reply_stored, same_stored, same_plan}
 use Rattle.change_verdict.specs.Changed.{change, replayed, replayed_as}
 
 module _ (kind : ℕ) (p : Problem) (s : Slices) (given : Allowance) (w : Work) (y : Reply) where

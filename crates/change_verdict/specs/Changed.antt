@@ -1,14 +1,14 @@
 -- What a stored call asks that changes a plan, and whether its answer and the plan are the stored ones. Kinds are numbered as in `KINDS` of the
 -- comparison: 0 minimise, 1 eliminate. Assumes nothing.
 use Rattle.std.specs.Prelude.{ℕ, List, Bool, cond, ◌&&◌, eqb}
-use Rattle.models.specs.Problem.{Problem}
-use Rattle.plan.specs.Plan.{Slices}
-use Rattle.ejection_pool.specs.Pool.{Allowance}
-use Rattle.entry.specs.Table.{Work}
-use Rattle.planner.specs.Told.{slices_of}
-use Rattle.planner.specs.Calls.{Reply, public_minimise, public_eliminate}
-use Rattle.stored_answers.specs.declared.Stored.{Stored}
-use Rattle.stored_answers.specs.Answers.{reply_stored, same_stored, same_plan}
+use Rattle.minimise_call.specs.models.Problem.{Problem}
+use Rattle.minimise_call.specs.plan.Plan.{Slices}
+use Rattle.minimise_call.specs.ejection_pool.Pool.{Allowance}
+use Rattle.minimise_call.specs.entry.Table.{Work}
+use Rattle.minimise_call.specs.planner.Told.{slices_of}
+use Rattle.minimise_call.specs.planner.Calls.{Reply, public_minimise, public_eliminate}
+use Rattle.same_answers.specs.stored_answers.declared.Stored.{Stored}
+use Rattle.same_answers.specs.stored_answers.Answers.{reply_stored, same_stored, same_plan}
 
 -- a call that changes the plan: any kind but 0 is eliminate
 unfoldable pub change : ℕ → Problem → Slices → Allowance → Work → Reply

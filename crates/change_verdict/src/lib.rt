@@ -2,17 +2,18 @@
 #![tactic(auto)]
 
 ghost use Rattle.std.specs.Prelude.{◌≡◌, length};
-ghost use Rattle.models.specs.Problem.{problem};
-ghost use Rattle.ejection_pool.specs.Running.{allowance};
-ghost use Rattle.planner.specs.Told.{reply_of, slices_of, work_of};
+ghost use Rattle.minimise_call.specs.models.Problem.{problem};
+ghost use Rattle.minimise_call.specs.ejection_pool.Running.{allowance};
+ghost use Rattle.minimise_call.specs.planner.Told.{reply_of, slices_of, work_of};
 ghost use Rattle.change_verdict.specs.Changed.{change, replayed, replayed_as};
 
 use eliminate_call::eliminate;
 use minimise_call::minimise;
-use models::vehicle::Vehicle;
-use planner::calls::Replied;
+use minimise_call::Vehicle;
+use minimise_call::Replied;
 use same_answers::{same_plan, same_stored};
-use stored_answers::{Stored, of_replied};
+use same_answers::Stored;
+use same_answers::of_replied;
 
 // What a call answers: minimise, or eliminate for any other kind.
 fn changed(

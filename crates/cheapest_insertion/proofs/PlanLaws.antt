@@ -8,18 +8,18 @@ use mathlib.Core.Option.{Option, none}
 use lib.ListN.{length, get_or, take, drop}
 use lib.Ieee.{Float}
 use borrow.Author.Rules.{rules}
-use Rattle.laws.specs.All.{All}
-use Rattle.laws.specs.Loops.{loop, loop_none, loop_more, loop_end}
-use Rattle.models.specs.Problem.{Problem, Stops, Admitted}
-use Rattle.plan.specs.Plan.{Plan, Lent, split, route}
-use Rattle.plan.specs.Slices.{length_split}
-use Rattle.route_cost.specs.declared.Insertion.{Insertion}
-use Rattle.route_cost.specs.declared.Best.{Best}
-use Rattle.route_cost.specs.declared.Best.TheVariants.{Nothing}
-use Rattle.route_cost.specs.Route.{chosen}
-use Rattle.route_load.specs.Feasible.{constrained}
-use Rattle.route_cost.proofs.VisitLaws.{Visiting, visit_start, part_is, visit_more, visit_laws}
-use Rattle.insertion.specs.Cheapest.{try_route, cheapest}
+use Rattle.route_insertion.specs.laws.All.{All}
+use Rattle.route_insertion.specs.laws.Loops.{loop, loop_none, loop_more, loop_end}
+use Rattle.route_insertion.specs.models.Problem.{Problem, Stops, Admitted}
+use Rattle.route_insertion.specs.plan.Plan.{Plan, Lent, split, route}
+use Rattle.route_insertion.specs.plan.Slices.{length_split}
+use Rattle.route_insertion.specs.route_cost.declared.Insertion.{Insertion}
+use Rattle.route_insertion.specs.route_cost.declared.Best.{Best}
+use Rattle.route_insertion.specs.route_cost.declared.Best.TheVariants.{Nothing}
+use Rattle.route_insertion.specs.route_cost.Route.{chosen}
+use Rattle.route_insertion.specs.route_load.Feasible.{constrained}
+use Rattle.route_insertion.proofs.of_route_cost.VisitLaws.{Visiting, visit_start, part_is, visit_more, visit_laws}
+use Rattle.route_insertion.specs.insertion.Cheapest.{try_route, cheapest}
 
 -- a turn of the loop over routes
 abbrev visited : Problem → Plan → ℕ → ℕ → Option Insertion → Option Insertion

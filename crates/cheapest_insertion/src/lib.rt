@@ -2,17 +2,23 @@
 #![tactic(auto)]
 
 ghost use Rattle.std.specs.Prelude.{◌≡◌, ◌-◌, ◌<◌, ◌≤◌, length, take, drop};
-ghost use Rattle.laws.specs.All.{All};
-ghost use Rattle.models.specs.RouteLimits.{limits_of};
-ghost use Rattle.models.specs.Problem.{problem, Stops, Admitted};
-ghost use Rattle.evaluation.specs.Check.{route_checks_needed};
-ghost use Rattle.plan.specs.Plan.{Lent, split};
-ghost use Rattle.route_cost.specs.Route.{chosen};
-ghost use Rattle.insertion.specs.Cheapest.{try_route, cheapest};
+ghost use Rattle.route_insertion.specs.laws.All.{All};
+ghost use Rattle.route_insertion.specs.models.RouteLimits.{limits_of};
+ghost use Rattle.route_insertion.specs.models.Problem.{problem, Stops, Admitted};
+ghost use Rattle.route_insertion.specs.evaluation.Check.{route_checks_needed};
+ghost use Rattle.route_insertion.specs.plan.Plan.{Lent, split};
+ghost use Rattle.route_insertion.specs.route_cost.Route.{chosen};
+ghost use Rattle.route_insertion.specs.insertion.Cheapest.{try_route, cheapest};
 
-use models::vehicle::Vehicle;
-use route_cost::Best;
+
+use route_insertion::RouteCostBest as Best;
 use route_insertion::try_route;
+
+// Of the crates below, passed on to those above.
+pub use route_insertion::Vehicle;
+pub use route_insertion::put_in;
+pub use route_insertion::RouteCostBest;
+pub use route_insertion::Counts;
 
 // Route k, which stands from `at` to `end` among the stops.
 fn try_part(

@@ -5,12 +5,12 @@ use mathlib.Core.List.{List}
 use mathlib.Core.Bool.{Bool, true, false, cond}
 use native.Mathlib.Omega.{arith}
 use lib.Dec.{leb}
-use Rattle.models.specs.Problem.{Problem}
-use Rattle.call_lists.specs.declared.Ran.{Ran}
-use Rattle.call_lists.specs.declared.Ran.TheVariants.{Malformed, Done as RanAll}
-use Rattle.call_words.specs.Words.{Buffers, well_formed}
-use Rattle.call_lists.specs.Lists.{Untouched, AllRun, Leaves}
-use Rattle.c_fits.specs.Misfit.{misfit}
+use Rattle.worth_questions.specs.models.Problem.{Problem}
+use Rattle.c_reports.specs.call_lists.declared.Ran.{Ran}
+use Rattle.c_reports.specs.call_lists.declared.Ran.TheVariants.{Malformed, Done as RanAll}
+use Rattle.c_reports.specs.call_words.Words.{Buffers, well_formed}
+use Rattle.c_reports.specs.call_lists.Lists.{Untouched, AllRun, Leaves}
+use Rattle.c_answers.specs.c_fits.Misfit.{misfit}
 use Rattle.c_reports.specs.Reports.{ran_code}
 use Rattle.cobrwydd.specs.Lists.{list_code, RanList}
 

@@ -8,11 +8,11 @@ use borrow.Author.Tests.{eq-eqb, le-ltb}
 use lib.Dec.{eqb}
 use lib.ListN.{length}
 use lib.Seq.{sets}
-use Rattle.sheet_planner.specs.declared.Printed.{Printed}
-use Rattle.sheet_planner.specs.declared.Printed.TheVariants.{Bytes}
-use Rattle.sheet_planner.specs.Output.{Output, output, into}
-use Rattle.c_fits.specs.Misfit.{misfit}
-use Rattle.c_values.proofs.AnswerLaws.{floats_fit, numbers_fit}
+use Rattle.c_reports.specs.sheet_planner.declared.Printed.{Printed}
+use Rattle.c_reports.specs.sheet_planner.declared.Printed.TheVariants.{Bytes}
+use Rattle.c_reports.specs.sheet_planner.Output.{Output, output, into}
+use Rattle.c_answers.specs.c_fits.Misfit.{misfit}
+use Rattle.c_answers.proofs.of_c_values.AnswerLaws.{floats_fit, numbers_fit}
 use Rattle.c_reports.specs.Reports.{printed_code, bytes_written}
 use Rattle.cobrwydd.specs.Sheets.{Prints, prints, sheet_call}
 

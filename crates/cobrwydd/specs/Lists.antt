@@ -1,8 +1,8 @@
 -- A list of calls in one call of the C interface. Assumes nothing.
 use Rattle.std.specs.Prelude.{ℕ, ◌≡◌, List, cond, length, leb}
-use Rattle.models.specs.Problem.{Problem}
-use Rattle.call_words.specs.Words.{Buffers, well_formed, calls_in}
-use Rattle.call_lists.specs.Lists.{AllRun}
+use Rattle.worth_questions.specs.models.Problem.{Problem}
+use Rattle.c_reports.specs.call_words.Words.{Buffers, well_formed, calls_in}
+use Rattle.c_reports.specs.call_lists.Lists.{AllRun}
 
 -- 101 where `given` is over 7, then 102 where the words of the list or the lengths of the slices do not fit together, else 0
 unfoldable pub list_code : ℕ → List ℕ → List ℕ → Buffers → ℕ

@@ -1,15 +1,15 @@
 // The calls that change a plan, which is two slices: the routes' lengths, and their stops, route after route. What a call counts goes into `counts`:
 // routes left, steps, draws. A call that returns another number than 0 leaves all of them as they were.
 ghost use Rattle.std.specs.Prelude.{◌≡◌, length};
-ghost use Rattle.models.specs.Problem.{problem};
-ghost use Rattle.ejection_pool.specs.Running.{allowance};
-ghost use Rattle.planner.specs.Calls.{public_minimise, public_eliminate};
-ghost use Rattle.planner.specs.Told.{slices_of, work_of};
+ghost use Rattle.worth_questions.specs.models.Problem.{problem};
+ghost use Rattle.worth_questions.specs.ejection_pool.Running.{allowance};
+ghost use Rattle.worth_questions.specs.planner.Calls.{public_minimise, public_eliminate};
+ghost use Rattle.worth_questions.specs.planner.Told.{slices_of, work_of};
 ghost use Rattle.c_vehicle.specs.VehicleOf.{vehicle_of};
-ghost use Rattle.c_values.specs.Said.{replies, plan_call, FreeIfDone};
+ghost use Rattle.c_answers.specs.c_values.Said.{replies, plan_call, FreeIfDone};
 
 use c_answers::put_reply;
-use c_fits::reply_misfit;
+use c_answers::reply_misfit;
 use c_vehicle::vehicle_of;
 
 // Fewer routes by an ejection pool: at most `limit` steps in an attempt, draws from the tape, a clock that stops the call after `clock` steps.
@@ -65,7 +65,7 @@ pub extern "C" fn cobrwydd_minimise(
         latest,
         duration,
     );
-    let reply = minimise_call::minimise(
+    let reply = c_reports::minimise(
         lengths, stops, work, cells, tape, limit, clock, n, demand, service, ready, due, penalty,
         flags, distances, times, vehicle,
     );
@@ -121,7 +121,7 @@ pub extern "C" fn cobrwydd_eliminate(
         latest,
         duration,
     );
-    let reply = eliminate_call::eliminate(
+    let reply = c_reports::eliminate(
         lengths, stops, work, cells, n, demand, service, ready, due, penalty, flags, distances,
         times, vehicle,
     );

@@ -1,11 +1,11 @@
 // A list of calls in one: minimise and eliminate over one problem, each on the plan as the last one left it, with every answer and both slices
 // after each call recorded. A call that returns another number than 0 changes nothing.
-ghost use Rattle.models.specs.Problem.{problem};
-ghost use Rattle.call_words.specs.Words.{buffers};
+ghost use Rattle.worth_questions.specs.models.Problem.{problem};
+ghost use Rattle.c_reports.specs.call_words.Words.{buffers};
 ghost use Rattle.c_vehicle.specs.VehicleOf.{vehicle_of};
 ghost use Rattle.cobrwydd.specs.Lists.{RanList};
 
-use c_fits::list_misfit;
+use c_answers::list_misfit;
 use c_reports::ran_code;
 use c_vehicle::vehicle_of;
 
@@ -62,7 +62,7 @@ pub extern "C" fn cobrwydd_run_calls(
         latest,
         duration,
     );
-    let ran = call_lists::run_calls(
+    let ran = c_reports::run_calls(
         lengths, stops, work, cells, answers, history, calls, tapes, n, demand, service, ready,
         due, penalty, flags, distances, times, vehicle,
     );

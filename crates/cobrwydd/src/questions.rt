@@ -1,17 +1,20 @@
 // The questions about one route or about the problem. What each answers goes into the slices `out` and `found`; a call that returns another number
 // than 0 leaves both as they were.
 ghost use Rattle.std.specs.Prelude.{◌≡◌, []};
-ghost use Rattle.models.specs.Vehicle.{vehicle_break_new};
-ghost use Rattle.models.specs.Problem.{problem};
-ghost use Rattle.planner.specs.Calls.{answered, public_route_feasible, public_route_eval, public_effective_cost, public_schedule, public_route_distance, public_lateness_bound, public_gain_floor, public_time_window_new};
+ghost use Rattle.worth_questions.specs.models.Vehicle.{vehicle_break_new};
+ghost use Rattle.worth_questions.specs.models.Problem.{problem};
+ghost use Rattle.worth_questions.specs.planner.Calls.{answered, public_route_feasible, public_route_eval, public_effective_cost, public_schedule, public_route_distance, public_lateness_bound, public_gain_floor, public_time_window_new};
 ghost use Rattle.c_vehicle.specs.VehicleOf.{vehicle_of};
-ghost use Rattle.c_values.specs.Said.{values, says, question, checked_values, number_values, eval_values, window_values};
+ghost use Rattle.c_answers.specs.c_values.Said.{values, says, question, checked_values, number_values, eval_values, window_values};
 
 use c_answers::{put_checked, put_number, put_window};
-use c_evaluations::put_evaluated;
-use c_fits::{checked_misfit, evaluated_misfit, number_misfit, window_misfit};
+use c_answers::put_evaluated;
+use c_answers::checked_misfit;
+use c_answers::evaluated_misfit;
+use c_answers::number_misfit;
+use c_answers::window_misfit;
 use c_vehicle::vehicle_of;
-use models::vehicle::VehicleBreak;
+use worth_questions::VehicleBreak;
 
 // Whether a route passes the check: found[0].
 #[unsafe(no_mangle)]
@@ -57,7 +60,7 @@ pub extern "C" fn cobrwydd_route_feasible(
         latest,
         duration,
     );
-    let answer = planner_questions::route_feasible(
+    let answer = worth_questions::planner_questions_route_feasible(
         route, n, demand, service, ready, due, penalty, flags, distances, times, vehicle,
     );
     put_checked(found, answer)
@@ -213,7 +216,7 @@ pub extern "C" fn cobrwydd_schedule(
         duration,
     );
     let rest = VehicleBreak::new(break_earliest, break_latest, break_duration);
-    let answer = planner_questions::schedule(
+    let answer = worth_questions::planner_questions_schedule(
         route, rest, n, demand, service, ready, due, penalty, flags, distances, times, vehicle,
     );
     put_evaluated(out, found, answer)
@@ -263,7 +266,7 @@ pub extern "C" fn cobrwydd_route_distance(
         latest,
         duration,
     );
-    let answer = planner_questions::route_distance(
+    let answer = worth_questions::planner_questions_route_distance(
         route, n, demand, service, ready, due, penalty, flags, distances, times, vehicle,
     );
     put_number(out, answer)

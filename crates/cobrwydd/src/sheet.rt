@@ -1,11 +1,11 @@
 // A sheet from bytes to bytes.
 ghost use Rattle.std.specs.Prelude.{◌≡◌};
-ghost use Rattle.sheet_answers.specs.Printed.{printed};
+ghost use Rattle.c_reports.specs.sheet_answers.Printed.{printed};
 ghost use Rattle.cobrwydd.specs.Sheets.{prints, sheet_call};
 
-use c_fits::sheet_misfit;
+use c_answers::sheet_misfit;
 use c_reports::put_printed;
-use sheet_planner::plan_sheet;
+use c_reports::plan_sheet;
 
 // What a text prints, its listing or the line of its refusal, in `out`, and in written[0] how many bytes that are.
 #[unsafe(no_mangle)]

@@ -9,10 +9,10 @@ use lib.ListN.{length, get_or, drop}
 use lib.Ieee.{Float, nan, lt, le, is_nan, of_bits}
 use lib.Ieee.Bits.{is_false}
 use borrow.Author.Rules.{rules}
-use Rattle.floats.specs.Binary64.{0f, max}
-use Rattle.floats.specs.Order.{passed, le_right, lt_false_of_le, lt_of_le_false}
-use Rattle.floats.specs.Functions.{max_first, max_second, max_not_nan_left}
-use Rattle.laws.specs.Loops.{foldl, fold_more, fold_end}
+use Rattle.place_record.specs.floats.Binary64.{0f, max}
+use Rattle.place_record.specs.floats.Order.{passed, le_right, lt_false_of_le, lt_of_le_false}
+use Rattle.place_record.specs.floats.Functions.{max_first, max_second, max_not_nan_left}
+use Rattle.place_record.specs.laws.Loops.{foldl, fold_more, fold_end}
 use Rattle.distance.specs.Matrix.{largest}
 use Rattle.distance.specs.Seen.{Seen}
 

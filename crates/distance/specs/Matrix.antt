@@ -1,9 +1,9 @@
 -- The distance matrix (distance/matrix.rs). Assumes nothing.
 use Rattle.std.specs.Prelude.{ℕ, ◌+◌, ◌*◌, List, cond, length, get_or, eqb, Float}
 use Rattle.std.specs.Float.{nan}
-use Rattle.floats.specs.Binary64.{0f, max}
-use Rattle.laws.specs.Loops.{foldl}
-use Rattle.models.specs.Problem.{DistanceMatrix}
+use Rattle.place_record.specs.floats.Binary64.{0f, max}
+use Rattle.place_record.specs.laws.Loops.{foldl}
+use Rattle.place_record.specs.models.Problem.{DistanceMatrix}
 
 -- the cell from one place to another, row by row
 abbrev pub cell : List Float → ℕ → ℕ → ℕ → Float

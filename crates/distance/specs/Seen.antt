@@ -1,8 +1,8 @@
 -- The loop that finds the largest number of a list, as far as it has come. Assumes nothing.
 use Rattle.std.specs.Prelude.{ℕ, ◌≤◌, ◌≡◌, false, List, length, drop, Float}
 use Rattle.std.specs.Float.Ieee.{is_nan}
-use Rattle.floats.specs.Binary64.{0f, max}
-use Rattle.laws.specs.Loops.{foldl}
+use Rattle.place_record.specs.floats.Binary64.{0f, max}
+use Rattle.place_record.specs.laws.Loops.{foldl}
 
 -- the largest of the numbers before i is `most`: the largest of all is what the rest makes of it
 pub record Seen (xs : List Float) (most : Float) (i : ℕ) : Type 0 where

@@ -2,18 +2,24 @@
 #![tactic(auto)]
 
 ghost use Rattle.std.specs.Prelude.{◌≡◌, ◌≤◌, length};
-ghost use Rattle.models.specs.RouteLimits.{limits_of};
-ghost use Rattle.models.specs.Problem.{problem, Admitted};
-ghost use Rattle.evaluation.specs.Check.{route_checks_needed};
-ghost use Rattle.plan.specs.Plan.{Holds, split, total};
-ghost use Rattle.perturbation.specs.Perturb.{try_move};
-ghost use Rattle.perturbation.specs.Parts.{drawn_exchange, drawn_tails, Movable};
-ghost use Rattle.perturbation.specs.Moves.{Between};
+ghost use Rattle.tail_exchange.specs.models.RouteLimits.{limits_of};
+ghost use Rattle.tail_exchange.specs.models.Problem.{problem, Admitted};
+ghost use Rattle.tail_exchange.specs.evaluation.Check.{route_checks_needed};
+ghost use Rattle.tail_exchange.specs.plan.Plan.{Holds, split, total};
+ghost use Rattle.tail_exchange.specs.perturbation.Perturb.{try_move};
+ghost use Rattle.tail_exchange.specs.perturbation.Parts.{drawn_exchange, drawn_tails, Movable};
+ghost use Rattle.tail_exchange.specs.perturbation.Moves.{Between};
 
-use models::vehicle::Vehicle;
-use perturbation::draws::{draw, draw_bool};
-use stop_exchange::try_exchange;
+
+use tail_exchange::draw_bool;
+use tail_exchange::try_exchange;
 use tail_exchange::try_tails;
+
+// Of the crates below, passed on to those above.
+pub use tail_exchange::Vehicle;
+pub use tail_exchange::eject;
+pub use tail_exchange::draw;
+pub use tail_exchange::other_than;
 
 // A stop of route a and a stop of route b are drawn and exchanged, where both routes stay feasible.
 fn exchange_drawn(

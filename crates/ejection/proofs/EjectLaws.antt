@@ -14,8 +14,8 @@ use mir.Syntax.{w32, w64}
 use mir.Val.{Fits}
 use borrow.Author.Rules.{rules}
 use borrow.Author.Tests.{eq-eqb, ne_eqb}
-use Rattle.laws.specs.Lists.{paste_on}
-use Rattle.models.specs.Problem.{Stops}
+use Rattle.insertion.specs.laws.Lists.{paste_on}
+use Rattle.insertion.specs.models.Problem.{Stops}
 use Rattle.ejection.specs.declared.Ejection.{Ejection}
 use Rattle.ejection.specs.declared.Best.{Best}
 use Rattle.ejection.specs.declared.Best.TheVariants.{Nothing, At}

@@ -1,10 +1,10 @@
 -- What the functions of the ejection ask for, and what follows for a kept part. Assumes nothing.
 use Rattle.std.specs.Prelude.{ℕ, suc, ◌+◌, ◌-◌, ◌≤◌, ◌<◌, ◌≡◌, Bool, List, ◌++◌, length, get_or}
 use Rattle.std.proofs.Common.{arith, length-append, length-take, length-drop}
-use Rattle.laws.specs.All.{all_of, all_get, all_append, all_take, all_drop}
-use Rattle.models.specs.RouteLimits.{limits_of}
-use Rattle.models.specs.Problem.{Problem, Admitted, Stops}
-use Rattle.evaluation.specs.Check.{route_checks_needed}
+use Rattle.insertion.specs.laws.All.{all_of, all_get, all_append, all_take, all_drop}
+use Rattle.insertion.specs.models.RouteLimits.{limits_of}
+use Rattle.insertion.specs.models.Problem.{Problem, Admitted, Stops}
+use Rattle.insertion.specs.evaluation.Check.{route_checks_needed}
 use Rattle.ejection.specs.Eject.{kept}
 
 -- a number of failures for each of n places: 1, and no more than one for each of 65,535 steps

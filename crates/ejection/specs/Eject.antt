@@ -3,14 +3,14 @@
 use Rattle.std.specs.Prelude.{ℕ, suc, ◌+◌, ◌-◌, List, [], ◌∷◌, ◌++◌, Bool, true, false, cond, not, length, get_or, take, drop, set, eqb, ltb, Float}
 use Rattle.std.proofs.Math.Option.{Option, none, some}
 use Rattle.std.specs.Float.Ieee.{le}
-use Rattle.laws.specs.Edits.{insert_at}
-use Rattle.laws.specs.Loops.{loop}
-use Rattle.models.specs.Problem.{Problem, depot}
-use Rattle.plan.specs.Plan.{Plan, route}
-use Rattle.local_search.specs.Options.{or_else}
-use Rattle.route_cost.specs.Route.{insertion_cost}
-use Rattle.route_load.specs.Feasible.{has_room}
-use Rattle.quick_test.specs.Quick.{Times, times}
+use Rattle.insertion.specs.laws.Edits.{insert_at}
+use Rattle.insertion.specs.laws.Loops.{loop}
+use Rattle.insertion.specs.models.Problem.{Problem, depot}
+use Rattle.insertion.specs.plan.Plan.{Plan, route}
+use Rattle.insertion.specs.local_search.Options.{or_else}
+use Rattle.insertion.specs.route_cost.Route.{insertion_cost}
+use Rattle.insertion.specs.route_load.Feasible.{has_room}
+use Rattle.insertion.specs.quick_test.Quick.{Times, times}
 use Rattle.insertion.specs.Cheapest.{may_go_in}
 use Rattle.ejection.specs.declared.Ejection.{Ejection}
 use Rattle.ejection.specs.declared.Best.{Best}

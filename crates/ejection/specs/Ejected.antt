@@ -6,16 +6,16 @@ use Rattle.std.proofs.Math.Option.{Option, none, some}
 use native.Mathlib.Omega.{arith}
 use Rattle.std.proofs.lemmas.Bool.{eqb-false}
 use Rattle.std.proofs.lemmas.List.{take-append-le, drop-append-le}
-use Rattle.laws.specs.Lists.{drop_take}
-use Rattle.laws.specs.Edits.{insert_at, erase}
-use Rattle.laws.specs.Counts.{one_if, count, count_append, count_parts, count_insert_at}
-use Rattle.laws.specs.Loops.{loop, cond_rule, loop_rule}
-use Rattle.models.specs.Problem.{Problem, depot}
-use Rattle.plan.specs.Plan.{Plan, route}
-use Rattle.local_search.specs.Options.{Each, each_or_else}
-use Rattle.route_cost.specs.Route.{insertion_cost}
-use Rattle.route_load.specs.Feasible.{has_room, feasible}
-use Rattle.quick_test.specs.Quick.{Times, times}
+use Rattle.insertion.specs.laws.Lists.{drop_take}
+use Rattle.insertion.specs.laws.Edits.{insert_at, erase}
+use Rattle.insertion.specs.laws.Counts.{one_if, count, count_append, count_parts, count_insert_at}
+use Rattle.insertion.specs.laws.Loops.{loop, cond_rule, loop_rule}
+use Rattle.insertion.specs.models.Problem.{Problem, depot}
+use Rattle.insertion.specs.plan.Plan.{Plan, route}
+use Rattle.insertion.specs.local_search.Options.{Each, each_or_else}
+use Rattle.insertion.specs.route_cost.Route.{insertion_cost}
+use Rattle.insertion.specs.route_load.Feasible.{has_room, feasible}
+use Rattle.insertion.specs.quick_test.Quick.{Times, times}
 use Rattle.insertion.specs.Cheapest.{may_go_in}
 use Rattle.insertion.specs.Inserted.{may_go_in_feasible}
 use Rattle.ejection.specs.declared.Ejection.{Ejection}

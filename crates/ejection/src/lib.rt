@@ -2,9 +2,30 @@
 #![tactic(auto)]
 
 ghost use Rattle.std.specs.Prelude.{◌≡◌, suc, ◌-◌, ◌≤◌, ◌<◌, length, get_or, take};
-ghost use Rattle.models.specs.Problem.{Stops};
+ghost use Rattle.insertion.specs.models.Problem.{Stops};
 ghost use Rattle.ejection.specs.Eject.{kept, failures_at, failure_sum, chosen, fails_more, outranks};
 ghost use Rattle.ejection.specs.Asked.{Counted};
+
+// Of the crates below, passed on to those above.
+pub use insertion::Vehicle;
+pub use insertion::copy_part;
+pub use insertion::offset;
+pub use insertion::put_in;
+pub use insertion::take_out;
+pub use insertion::Pick;
+pub use insertion::next_pick;
+pub use insertion::insertion_cost_insertion_cost;
+pub use insertion::has_room;
+pub use insertion::within_capacity;
+pub use insertion::rounds;
+pub use insertion::checked;
+pub use insertion::constrained;
+pub use insertion::feasible;
+pub use insertion::Counts;
+pub use insertion::LocalSearchNext;
+pub use insertion::Reduction;
+pub use insertion::prepare;
+pub use insertion::may_pass;
 
 // Who leaves a route and where the popped stop goes: the sum of their failures, what the insertion costs, the route, the two places in it
 // (the same one twice where one stop leaves), and the position in the kept part.
@@ -89,8 +110,8 @@ pub fn keep(work: &mut [u16], route: &[u16], i: usize, j: usize) -> usize
 {
     let m = between(i, j);
     let rest = route.len() - (j + 1);
-    cells::copy_part(work, 0, route, 0, i);
-    cells::copy_part(work, i, route, i + 1, m);
-    cells::copy_part(work, i + m, route, j + 1, rest);
+    insertion::copy_part(work, 0, route, 0, i);
+    insertion::copy_part(work, i, route, i + 1, m);
+    insertion::copy_part(work, i + m, route, j + 1, rest);
     i + m + rest
 }

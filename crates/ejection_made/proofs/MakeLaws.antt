@@ -7,10 +7,10 @@ use mathlib.Core.Path.{◌≡◌, refl, sym, ap, ◌∙◌}
 use mathlib.Core.List.{List, [], ◌∷◌, ◌++◌, reverse}
 use lib.ListN.{length, get_or, set, length-set}
 use borrow.Author.Rules.{rules}
-use Rattle.laws.specs.Edits.{length_erase, get_erase_before}
-use Rattle.plan.specs.Plan.{Plan, Holds, Lent, HasPosition, HasStop, split, route, total, put_in, take_out}
-use Rattle.plan.specs.Slices.{held_position, held_stop, stop_within, stop_route, route_within}
-use Rattle.plan.specs.Routes.{length_take_out, route_take_out}
+use Rattle.ejection.specs.laws.Edits.{length_erase, get_erase_before}
+use Rattle.ejection.specs.plan.Plan.{Plan, Holds, Lent, HasPosition, HasStop, split, route, total, put_in, take_out}
+use Rattle.ejection.specs.plan.Slices.{held_position, held_stop, stop_within, stop_route, route_within}
+use Rattle.ejection.specs.plan.Routes.{length_take_out, route_take_out}
 use Rattle.ejection.specs.declared.Ejection.{Ejection}
 use Rattle.ejection.specs.Eject.{kept, make_room, gone}
 use Rattle.ejection.specs.Ejected.{Inside, kept_one, kept_two}

@@ -4,8 +4,8 @@ use Rattle.std.proofs.Common.{sym, ap, ◌∙◌, not-suc-le-zero, add-one, arit
 use mathlib.Core.List.{List, [], ◌∷◌, ◌++◌, reverse, reverse_aux}
 use Rattle.std.proofs.Math.ListN.{length, length-set}
 use Rattle.std.proofs.Math.Seq.{get_or-set_same, set-set}
-use Rattle.laws.specs.Edits.{insert_at, erase}
-use Rattle.plan.specs.Plan.{Plan, route, split, total, put_in, take_out}
+use Rattle.ejection.specs.laws.Edits.{insert_at, erase}
+use Rattle.ejection.specs.plan.Plan.{Plan, route, split, total, put_in, take_out}
 use Rattle.ejection.specs.declared.Ejection.{Ejection}
 use Rattle.ejection.specs.Eject.{kept, ejected, into, make_room, gone}
 use Rattle.ejection.specs.Ejected.{Inside, kept_one, kept_two}

@@ -2,11 +2,24 @@
 #![tactic(auto)]
 
 ghost use Rattle.std.specs.Prelude.{◌≡◌, ◌+◌, ◌<◌, length, get_or};
-ghost use Rattle.plan.specs.Plan.{Holds, Lent, HasPosition, HasStop, split, route, total, put_in, take_out};
+ghost use Rattle.ejection.specs.plan.Plan.{Holds, Lent, HasPosition, HasStop, split, route, total, put_in, take_out};
 ghost use Rattle.ejection.specs.Ejected.{Inside};
 ghost use Rattle.ejection_made.specs.Made.{stack, Made};
 
-use ejection::Ejection;
+// Of the crates below, passed on to those above.
+pub use ejection::copy_part;
+pub use ejection::offset;
+pub use ejection::Pick;
+pub use ejection::next_pick;
+pub use ejection::rounds;
+pub use ejection::constrained;
+pub use ejection::Counts;
+pub use ejection::LocalSearchNext;
+pub use ejection::Reduction;
+pub use ejection::Best as EjectionBest;
+pub use ejection::Ejection;
+
+
 
 // The stop at i leaves route k, and c goes in at pos of what is left. Returns the stop that left.
 fn replace(lengths: &mut [u16], stops: &mut [u16], k: usize, i: usize, pos: usize, c: u16) -> u16
@@ -15,8 +28,8 @@ fn replace(lengths: &mut [u16], stops: &mut [u16], k: usize, i: usize, pos: usiz
     ensures plan { Holds (put_in k pos c (take_out k i (split lengths.old stops.old))) (total lengths.old) lengths.new stops.new }
     ensures stop { result ≡ get_or (route k (split lengths.old stops.old)) i 0 }
 {
-    let x = plan::take_out(lengths, stops, k, i);
-    plan::put_in(lengths, stops, k, pos, c);
+    let x = ejection::take_out(lengths, stops, k, i);
+    ejection::put_in(lengths, stops, k, pos, c);
     x
 }
 
@@ -52,7 +65,7 @@ pub fn make_two(
     ensures { Made (split lengths.old stops.old) (total lengths.old + count + 1) (stack pool.old count) c e
         lengths.new stops.new pool.new (count + 2) }
 {
-    let y = plan::take_out(lengths, stops, e.route, e.second);
+    let y = ejection::take_out(lengths, stops, e.route, e.second);
     let x = replace(lengths, stops, e.route, e.first, e.pos, c);
     pool[count] = x;
     pool[count + 1] = y;

@@ -3,12 +3,12 @@ use Rattle.std.specs.Prelude.{ℕ, ◌≡◌, refl, List, [], ◌∷◌, replica
 use Rattle.std.proofs.Math.Option.{some}
 use Rattle.std.specs.Float.{binary64}
 use Rattle.std.specs.Float.Ieee.{of_int}
-use Rattle.models.specs.declared.vehicle.Limit.TheVariants.{None as NoLimit}
-use Rattle.models.specs.declared.vehicle.Rest.TheVariants.{None as NoRest}
-use Rattle.models.specs.declared.vehicle.Vehicle.{Vehicle}
-use Rattle.models.specs.Problem.{Problem, problem}
-use Rattle.plan.specs.Plan.{Plan}
-use Rattle.local_search.specs.declared.rounds.Counts.{Counts}
+use Rattle.ejection_made.specs.models.declared.vehicle.Limit.TheVariants.{None as NoLimit}
+use Rattle.ejection_made.specs.models.declared.vehicle.Rest.TheVariants.{None as NoRest}
+use Rattle.ejection_made.specs.models.declared.vehicle.Vehicle.{Vehicle}
+use Rattle.ejection_made.specs.models.Problem.{Problem, problem}
+use Rattle.ejection_made.specs.plan.Plan.{Plan}
+use Rattle.ejection_made.specs.local_search.declared.rounds.Counts.{Counts}
 use Rattle.ejection_pool.specs.Pool.{Allowance, more, turn, empty_into}
 use Rattle.ejection_pool.specs.Opened.{opened}
 

@@ -15,3 +15,9 @@ pub mod Running
 pub mod Opened
 -- the pool computed on small plans
 pub mod Examples
+-- crates below, passed on to those above
+pub use Rattle.ejection_made.specs.route_order as route_order
+pub use Rattle.ejection_made.specs.route_load as route_load
+pub use Rattle.ejection_made.specs.local_search as local_search
+pub use Rattle.ejection_made.specs.quick_test as quick_test
+pub use Rattle.ejection_made.specs as ejection_made

@@ -6,22 +6,22 @@ use Rattle.std.proofs.Math.Path.{ap}
 use Rattle.std.proofs.Common.{subst, ◌∙◌, length-set}
 use mathlib.Core.List.{List, [], ◌∷◌, ◌++◌, reverse}
 use native.Mathlib.Omega.{arith}
-use Rattle.laws.specs.All.{All, all_set}
-use Rattle.laws.specs.Edits.{insert_at}
-use Rattle.laws.specs.Counts.{count, count_append, count_reverse}
-use Rattle.models.specs.Problem.{Problem}
-use Rattle.plan.specs.Plan.{Plan, route, put_in, non_empty, occurs}
-use Rattle.plan.specs.Routes.{occurs_set, length_put_in, occurs_put_in, all_put_in}
-use Rattle.local_search.specs.Options.{Each, each_found}
-use Rattle.route_load.specs.Feasible.{feasible}
-use Rattle.local_search.specs.Rounds.{Tried}
-use Rattle.local_search.specs.Reduced.{Bounded}
-use Rattle.insertion.specs.Cheapest.{cheapest}
-use Rattle.insertion.specs.Inserted.{insert_non_empty, Inserts, cheapest_found}
-use Rattle.ejection.specs.declared.Ejection.{Ejection}
-use Rattle.ejection.specs.Eject.{kept, eject, into, make_room, gone}
-use Rattle.ejection.specs.Ejected.{Ejects, ejects_count, eject_found}
-use Rattle.perturbation.specs.Moves.{Moves, perturb_rule, perturb_draws}
+use Rattle.ejection_made.specs.laws.All.{All, all_set}
+use Rattle.ejection_made.specs.laws.Edits.{insert_at}
+use Rattle.ejection_made.specs.laws.Counts.{count, count_append, count_reverse}
+use Rattle.ejection_made.specs.models.Problem.{Problem}
+use Rattle.ejection_made.specs.plan.Plan.{Plan, route, put_in, non_empty, occurs}
+use Rattle.ejection_made.specs.plan.Routes.{occurs_set, length_put_in, occurs_put_in, all_put_in}
+use Rattle.ejection_made.specs.local_search.Options.{Each, each_found}
+use Rattle.ejection_made.specs.route_load.Feasible.{feasible}
+use Rattle.ejection_made.specs.local_search.Rounds.{Tried}
+use Rattle.ejection_made.specs.local_search.Reduced.{Bounded}
+use Rattle.ejection_made.specs.insertion.Cheapest.{cheapest}
+use Rattle.ejection_made.specs.insertion.Inserted.{insert_non_empty, Inserts, cheapest_found}
+use Rattle.ejection_made.specs.ejection.declared.Ejection.{Ejection}
+use Rattle.ejection_made.specs.ejection.Eject.{kept, eject, into, make_room, gone}
+use Rattle.ejection_made.specs.ejection.Ejected.{Ejects, ejects_count, eject_found}
+use Rattle.random_moves.specs.perturbation.Moves.{Moves, perturb_rule, perturb_draws}
 use Rattle.ejection_pool.specs.Pool.{Allowance, State, turn, at_limit, run_pool}
 use Rattle.ejection_pool.specs.Turns.{Then, turn_rule, pool_rule}
 

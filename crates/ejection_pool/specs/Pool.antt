@@ -1,15 +1,15 @@
 -- The ejection pool: the attempt to empty a route into the others (route_minimization.rs, `Pool::empty_into`). Assumes nothing.
 use Rattle.std.specs.Prelude.{ℕ, zero, suc, ◌+◌, List, [], ◌∷◌, ◌++◌, reverse, cond, get_or, set, replicate, leb}
 use Rattle.std.proofs.Math.Option.{Option, none, some}
-use Rattle.models.specs.Problem.{Problem}
-use Rattle.plan.specs.Plan.{Plan, put_in}
-use Rattle.route_cost.specs.declared.Insertion.{Insertion}
-use Rattle.local_search.specs.declared.rounds.Counts.{Counts}
-use Rattle.local_search.specs.Rounds.{Tried}
-use Rattle.insertion.specs.Cheapest.{cheapest}
-use Rattle.ejection.specs.declared.Ejection.{Ejection}
-use Rattle.ejection.specs.Eject.{eject, make_room, gone}
-use Rattle.perturbation.specs.Perturb.{perturb}
+use Rattle.ejection_made.specs.models.Problem.{Problem}
+use Rattle.ejection_made.specs.plan.Plan.{Plan, put_in}
+use Rattle.ejection_made.specs.route_cost.declared.Insertion.{Insertion}
+use Rattle.ejection_made.specs.local_search.declared.rounds.Counts.{Counts}
+use Rattle.ejection_made.specs.local_search.Rounds.{Tried}
+use Rattle.ejection_made.specs.insertion.Cheapest.{cheapest}
+use Rattle.ejection_made.specs.ejection.declared.Ejection.{Ejection}
+use Rattle.ejection_made.specs.ejection.Eject.{eject, make_room, gone}
+use Rattle.random_moves.specs.perturbation.Perturb.{perturb}
 
 -- what a call may use: the step limit M, the clock's K, the draw tape
 pub record Allowance : Type 0 where

@@ -6,15 +6,15 @@ use Rattle.std.proofs.Math.Path.{subst}
 use mathlib.Core.List.{List, [], ◌∷◌, ◌++◌}
 use Rattle.std.proofs.lemmas.Bool.{eqb-false}
 use Rattle.std.proofs.Math.ListN.{length-append}
-use Rattle.laws.specs.All.{all_of}
-use Rattle.laws.specs.Counts.{count, count_append, same_length}
-use Rattle.models.specs.Problem.{Problem}
-use Rattle.plan.specs.Plan.{Plan, flat, occurs}
-use Rattle.local_search.specs.declared.rounds.Counts.{Counts}
-use Rattle.local_search.specs.Planned.{Planned}
-use Rattle.local_search.specs.Rounds.{Tried}
-use Rattle.perturbation.specs.Moves.{perturb_draws}
-use Rattle.ejection.specs.Eject.{make_room}
+use Rattle.ejection_made.specs.laws.All.{all_of}
+use Rattle.ejection_made.specs.laws.Counts.{count, count_append, same_length}
+use Rattle.ejection_made.specs.models.Problem.{Problem}
+use Rattle.ejection_made.specs.plan.Plan.{Plan, flat, occurs}
+use Rattle.ejection_made.specs.local_search.declared.rounds.Counts.{Counts}
+use Rattle.ejection_made.specs.local_search.Planned.{Planned}
+use Rattle.ejection_made.specs.local_search.Rounds.{Tried}
+use Rattle.random_moves.specs.perturbation.Moves.{perturb_draws}
+use Rattle.ejection_made.specs.ejection.Eject.{make_room}
 use Rattle.ejection_pool.specs.Pool.{Allowance, State, Turn, stop, more, turn}
 use Rattle.ejection_pool.specs.Turns.{Then, turn_rule}
 use Rattle.ejection_pool.specs.Placing.{Placing, turn_placing}

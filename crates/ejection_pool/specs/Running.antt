@@ -1,14 +1,14 @@
 -- The pool's state as the code holds it, what the loop asks for, and what a place for a stop changes. Assumes nothing.
 use Rattle.std.specs.Prelude.{ℕ, ◌+◌, ◌≤◌, ◌<◌, ◌^◌, ◌≡◌, Bool, true, false, List, length, Float}
 use Rattle.std.proofs.Math.Option.{Option, none, some}
-use Rattle.models.specs.RouteLimits.{limits_of}
-use Rattle.models.specs.Problem.{Problem, Admitted}
-use Rattle.evaluation.specs.Check.{route_checks_needed}
-use Rattle.plan.specs.Plan.{Plan, Lent, split, put_in}
-use Rattle.local_search.specs.declared.rounds.Counts.{Counts}
-use Rattle.route_cost.specs.declared.Insertion.{Insertion}
-use Rattle.local_search.specs.Planned.{Planned}
-use Rattle.ejection.specs.Asked.{Counted}
+use Rattle.ejection_made.specs.models.RouteLimits.{limits_of}
+use Rattle.ejection_made.specs.models.Problem.{Problem, Admitted}
+use Rattle.ejection_made.specs.evaluation.Check.{route_checks_needed}
+use Rattle.ejection_made.specs.plan.Plan.{Plan, Lent, split, put_in}
+use Rattle.ejection_made.specs.local_search.declared.rounds.Counts.{Counts}
+use Rattle.ejection_made.specs.route_cost.declared.Insertion.{Insertion}
+use Rattle.ejection_made.specs.local_search.Planned.{Planned}
+use Rattle.ejection_made.specs.ejection.Asked.{Counted}
 use Rattle.ejection_made.specs.Made.{stack}
 use Rattle.ejection_pool.specs.Pool.{Allowance, State}
 use Rattle.ejection_pool.specs.Pooled.{Pooled}

@@ -8,16 +8,16 @@ use mathlib.Core.List.{List, [], ◌∷◌, ◌++◌, reverse}
 use Rattle.std.proofs.Math.Option.{Option, none, some}
 use Rattle.std.proofs.lemmas.Bool.{lt-leb}
 use Rattle.std.proofs.Math.ListN.{set}
-use Rattle.laws.specs.Loops.{cond_rule}
-use Rattle.models.specs.Problem.{Problem}
-use Rattle.plan.specs.Plan.{put_in}
-use Rattle.route_cost.specs.declared.Insertion.{Insertion}
-use Rattle.local_search.specs.declared.rounds.Counts.{Counts}
-use Rattle.local_search.specs.Rounds.{Tried}
-use Rattle.insertion.specs.Cheapest.{cheapest}
-use Rattle.ejection.specs.declared.Ejection.{Ejection}
-use Rattle.ejection.specs.Eject.{eject, make_room, gone}
-use Rattle.perturbation.specs.Perturb.{perturb}
+use Rattle.ejection_made.specs.laws.Loops.{cond_rule}
+use Rattle.ejection_made.specs.models.Problem.{Problem}
+use Rattle.ejection_made.specs.plan.Plan.{put_in}
+use Rattle.ejection_made.specs.route_cost.declared.Insertion.{Insertion}
+use Rattle.ejection_made.specs.local_search.declared.rounds.Counts.{Counts}
+use Rattle.ejection_made.specs.local_search.Rounds.{Tried}
+use Rattle.ejection_made.specs.insertion.Cheapest.{cheapest}
+use Rattle.ejection_made.specs.ejection.declared.Ejection.{Ejection}
+use Rattle.ejection_made.specs.ejection.Eject.{eject, make_room, gone}
+use Rattle.random_moves.specs.perturbation.Perturb.{perturb}
 use Rattle.ejection_pool.specs.Pool.{Allowance, State, Turn, stop, more, failed, counted, after_eject, after_cheapest, turn, turned, at_limit, run_pool}
 
 -- what must hold after a turn: O of what it stops with, or I of the state that it goes on with

@@ -8,15 +8,15 @@ use lib.ListN.{length}
 use lib.IntN.{ℤ}
 use lib.Ieee.{Float}
 use borrow.Author.Rules.{rules}
-use Rattle.laws.specs.Loops.{loop, loop_same}
-use Rattle.models.specs.declared.vehicle.Vehicle.{Vehicle}
-use Rattle.models.specs.Problem.{DistanceMatrix, Problem, matrix, problem, of_demand, depot}
-use Rattle.route_cost.specs.Route.{insertion_cost}
-use Rattle.route_load.specs.Feasible.{has_room}
-use Rattle.local_search.proofs.ReadLaws.{insertion_any, room_any}
-use Rattle.quick_test.specs.Quick.{Times, times as times-along}
-use Rattle.route_times.specs.Prepared.{held, Prepared, prepared_missed, prepared_read, prepared_any}
-use Rattle.insertion.specs.Pass.{may_pass}
+use Rattle.ejection.specs.laws.Loops.{loop, loop_same}
+use Rattle.ejection.specs.models.declared.vehicle.Vehicle.{Vehicle}
+use Rattle.ejection.specs.models.Problem.{DistanceMatrix, Problem, matrix, problem, of_demand, depot}
+use Rattle.ejection.specs.route_cost.Route.{insertion_cost}
+use Rattle.ejection.specs.route_load.Feasible.{has_room}
+use Rattle.ejection.proofs.of_local_search.ReadLaws.{insertion_any, room_any}
+use Rattle.ejection.specs.quick_test.Quick.{Times, times as times-along}
+use Rattle.ejection.specs.route_times.Prepared.{held, Prepared, prepared_missed, prepared_read, prepared_any}
+use Rattle.ejection.specs.insertion.Pass.{may_pass}
 use Rattle.ejection.specs.declared.Ejection.{Ejection}
 use Rattle.ejection_positions.specs.declared.Out.{Out}
 use Rattle.ejection.specs.Eject.{outranks, try_in_kept, try_kept, try_left}

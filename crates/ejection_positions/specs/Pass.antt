@@ -5,13 +5,13 @@ use Rattle.std.proofs.Math.Path.{refl}
 use Rattle.std.proofs.Math.Bool.{not}
 use Rattle.std.proofs.Math.Option.{Option, none, some}
 use borrow.Author.Tests.{not-true}
-use Rattle.laws.specs.Loops.{loop_rule}
-use Rattle.laws.specs.Searches.{every, every_at}
-use Rattle.models.specs.Problem.{DistanceMatrix, Problem, depot}
-use Rattle.route_cost.specs.Route.{insertion_cost}
-use Rattle.route_load.specs.Feasible.{constrained, has_room}
-use Rattle.quick_test.specs.Quick.{Times}
-use Rattle.insertion.specs.Pass.{may_pass, may_pass_room, may_go_in_untimed}
+use Rattle.ejection.specs.laws.Loops.{loop_rule}
+use Rattle.ejection.specs.laws.Searches.{every, every_at}
+use Rattle.ejection.specs.models.Problem.{DistanceMatrix, Problem, depot}
+use Rattle.ejection.specs.route_cost.Route.{insertion_cost}
+use Rattle.ejection.specs.route_load.Feasible.{constrained, has_room}
+use Rattle.ejection.specs.quick_test.Quick.{Times}
+use Rattle.ejection.specs.insertion.Pass.{may_pass, may_pass_room, may_go_in_untimed}
 use Rattle.ejection.specs.declared.Ejection.{Ejection}
 use Rattle.ejection.specs.Eject.{outranks, try_in_kept, try_kept}
 

@@ -2,21 +2,31 @@
 #![tactic(auto)]
 
 ghost use Rattle.std.specs.Prelude.{◌≡◌, [], suc, ◌*◌, ◌<◌, ◌≤◌, length};
-ghost use Rattle.laws.specs.Loops.{loop};
-ghost use Rattle.models.specs.Customer.{customers};
-ghost use Rattle.models.specs.RouteLimits.{limits_of};
-ghost use Rattle.models.specs.Problem.{matrix, problem, Fit, Stops, Admitted};
-ghost use Rattle.evaluation.specs.Check.{route_checks_needed};
-ghost use Rattle.route_times.specs.Prepared.{held};
+ghost use Rattle.ejection.specs.laws.Loops.{loop};
+ghost use Rattle.ejection.specs.models.Customer.{customers};
+ghost use Rattle.ejection.specs.models.RouteLimits.{limits_of};
+ghost use Rattle.ejection.specs.models.Problem.{matrix, problem, Fit, Stops, Admitted};
+ghost use Rattle.ejection.specs.evaluation.Check.{route_checks_needed};
+ghost use Rattle.ejection.specs.route_times.Prepared.{held};
 ghost use Rattle.ejection.specs.Eject.{chosen, try_left};
 ghost use Rattle.ejection_positions.specs.Pass.{none_outranks, pass_in_kept};
 
 use ejection::{Best, Ejection, outranks};
-use insertion::may_pass;
-use insertion_cost::insertion_cost;
-use models::vehicle::Vehicle;
-use route_load::has_room;
-use route_times::prepare;
+use ejection::may_pass;
+use ejection::insertion_cost_insertion_cost as insertion_cost;
+
+use ejection::has_room;
+use ejection::prepare;
+
+// Of the crates below, passed on to those above.
+pub use ejection::Vehicle;
+pub use ejection::within_capacity;
+pub use ejection::checked;
+pub use ejection::feasible;
+pub use ejection::Best as EjectionBest;
+pub use ejection::fails_more;
+pub use ejection::failure_sum;
+pub use ejection::keep;
 
 // Who leaves: the sum of their failures, the route and their two places in it, the same one twice where one stop leaves.
 #[derive(Clone, Copy)]

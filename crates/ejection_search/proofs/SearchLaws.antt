@@ -7,20 +7,20 @@ use mathlib.Core.List.{List}
 use mathlib.Core.Option.{Option, none}
 use lib.ListN.{length, get_or, take, drop, length-take, length-drop}
 use lib.Ieee.{Float}
-use Rattle.laws.specs.All.{All}
-use Rattle.laws.specs.Loops.{loop, loop_none, loop_more, loop_end}
-use Rattle.models.specs.Problem.{Problem, Admitted, Stops}
-use Rattle.models.specs.RouteLimits.{limits_of}
-use Rattle.evaluation.specs.Check.{route_checks_needed}
-use Rattle.local_search.specs.Options.{or_else}
-use Rattle.plan.specs.Plan.{Plan, Lent, split, route}
-use Rattle.plan.specs.Slices.{length_split}
-use Rattle.route_cost.proofs.VisitLaws.{Visiting, visit_start, part_is, part_stops, visit_more}
-use Rattle.ejection.specs.declared.Ejection.{Ejection}
-use Rattle.ejection.specs.declared.Best.{Best}
-use Rattle.ejection.specs.declared.Best.TheVariants.{Nothing, At}
-use Rattle.ejection.specs.Eject.{chosen, try_one, try_two, eject_one, eject_two, eject}
-use Rattle.ejection.specs.Asked.{Counted, Sought}
+use Rattle.route_ejection.specs.laws.All.{All}
+use Rattle.route_ejection.specs.laws.Loops.{loop, loop_none, loop_more, loop_end}
+use Rattle.route_ejection.specs.models.Problem.{Problem, Admitted, Stops}
+use Rattle.route_ejection.specs.models.RouteLimits.{limits_of}
+use Rattle.route_ejection.specs.evaluation.Check.{route_checks_needed}
+use Rattle.route_ejection.specs.local_search.Options.{or_else}
+use Rattle.route_ejection.specs.plan.Plan.{Plan, Lent, split, route}
+use Rattle.route_ejection.specs.plan.Slices.{length_split}
+use Rattle.route_ejection.proofs.of_route_cost.VisitLaws.{Visiting, visit_start, part_is, part_stops, visit_more}
+use Rattle.route_ejection.specs.ejection.declared.Ejection.{Ejection}
+use Rattle.route_ejection.specs.ejection.declared.Best.{Best}
+use Rattle.route_ejection.specs.ejection.declared.Best.TheVariants.{Nothing, At}
+use Rattle.route_ejection.specs.ejection.Eject.{chosen, try_one, try_two, eject_one, eject_two, eject}
+use Rattle.route_ejection.specs.ejection.Asked.{Counted, Sought}
 use Rattle.ejection_search.specs.Some.{try_some, eject_some}
 
 -- ---- one or two

@@ -1,11 +1,11 @@
 -- One stop or two leave, by a flag: a part of the search that has a function of its own. Assumes nothing.
 use Rattle.std.specs.Prelude.{ℕ, Bool, true, false, List, length}
 use Rattle.std.proofs.Math.Option.{Option, none}
-use Rattle.laws.specs.Loops.{loop}
-use Rattle.models.specs.Problem.{Problem}
-use Rattle.plan.specs.Plan.{Plan, route}
-use Rattle.ejection.specs.declared.Ejection.{Ejection}
-use Rattle.ejection.specs.Eject.{try_one, try_two}
+use Rattle.route_ejection.specs.laws.Loops.{loop}
+use Rattle.route_ejection.specs.models.Problem.{Problem}
+use Rattle.route_ejection.specs.plan.Plan.{Plan, route}
+use Rattle.route_ejection.specs.ejection.declared.Ejection.{Ejection}
+use Rattle.route_ejection.specs.ejection.Eject.{try_one, try_two}
 
 -- one stop or two leave route k
 abbrev pub try_some : Bool → Problem → ℕ → List ℕ → ℕ → List ℕ → Option Ejection → Option Ejection

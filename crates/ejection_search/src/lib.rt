@@ -3,18 +3,24 @@
 #![tactic(auto)]
 
 ghost use Rattle.std.specs.Prelude.{◌≡◌, ◌-◌, ◌<◌, ◌≤◌, length, take, drop};
-ghost use Rattle.laws.specs.All.{All};
-ghost use Rattle.models.specs.RouteLimits.{limits_of};
-ghost use Rattle.models.specs.Problem.{problem, Stops, Admitted};
-ghost use Rattle.evaluation.specs.Check.{route_checks_needed};
-ghost use Rattle.plan.specs.Plan.{Lent, split};
-ghost use Rattle.ejection.specs.Eject.{chosen, eject};
-ghost use Rattle.ejection.specs.Asked.{Counted, Sought};
+ghost use Rattle.route_ejection.specs.laws.All.{All};
+ghost use Rattle.route_ejection.specs.models.RouteLimits.{limits_of};
+ghost use Rattle.route_ejection.specs.models.Problem.{problem, Stops, Admitted};
+ghost use Rattle.route_ejection.specs.evaluation.Check.{route_checks_needed};
+ghost use Rattle.route_ejection.specs.plan.Plan.{Lent, split};
+ghost use Rattle.route_ejection.specs.ejection.Eject.{chosen, eject};
+ghost use Rattle.route_ejection.specs.ejection.Asked.{Counted, Sought};
 ghost use Rattle.ejection_search.specs.Some.{try_some, eject_some};
 
-use ejection::Best;
-use models::vehicle::Vehicle;
+use route_ejection::EjectionBest as Best;
+
 use route_ejection::{try_one, try_two};
+
+// Of the crates below, passed on to those above.
+pub use route_ejection::Vehicle;
+pub use route_ejection::within_capacity;
+pub use route_ejection::checked;
+pub use route_ejection::feasible;
 
 // One stop or two leave route k.
 fn try_some(

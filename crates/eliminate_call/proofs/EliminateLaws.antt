@@ -4,15 +4,15 @@ use mathlib.Core.Path.{◌≡◌}
 use mathlib.Core.List.{List}
 use native.Mathlib.Omega.{arith}
 use lib.ListN.{length}
-use Rattle.models.specs.Problem.{Problem}
-use Rattle.plan.specs.Plan.{Slices}
-use Rattle.local_search.specs.declared.rounds.Reduction.{Reduction}
-use Rattle.local_search.specs.Search.{Answers}
-use Rattle.elimination_moves.specs.Eliminate.{eliminate_routes}
-use Rattle.elimination_round.specs.Eliminating.{Eliminating}
-use Rattle.entry.specs.Table.{Work, refusal}
-use Rattle.entry.specs.Given.{numbered, eliminate_inputs}
-use Rattle.entry.proofs.AdmittedLaws.{not_refused, eliminate_accepted}
+use Rattle.route_elimination.specs.models.Problem.{Problem}
+use Rattle.route_elimination.specs.plan.Plan.{Slices}
+use Rattle.route_elimination.specs.local_search.declared.rounds.Reduction.{Reduction}
+use Rattle.route_elimination.specs.local_search.Search.{Answers}
+use Rattle.route_elimination.specs.elimination_moves.Eliminate.{eliminate_routes}
+use Rattle.route_elimination.specs.elimination_round.Eliminating.{Eliminating}
+use Rattle.refusals.specs.entry.Table.{Work, refusal}
+use Rattle.refusals.specs.entry.Given.{numbered, eliminate_inputs}
+use Rattle.refusals.proofs.of_entry.AdmittedLaws.{not_refused, eliminate_accepted}
 use Rattle.planner.specs.Calls.{refused, answered, Reply, plan_in, public_eliminate}
 use Rattle.planner.proofs.CallLaws.{reply_refused, reply_answered}
 

@@ -7,14 +7,14 @@ use mathlib.Core.Option.{Option}
 use lib.ListN.{length, take, drop}
 use lib.Seq.{take_at, drop_at}
 use lib.Ieee.{Float}
-use Rattle.floats.specs.Binary64.{◌⊕◌, is_finite}
-use Rattle.models.specs.Vehicle.{fixed_cost_in_distance}
-use Rattle.models.specs.Problem.{Problem}
-use Rattle.plan.specs.Plan.{Plan, route, saved}
-use Rattle.local_search.specs.Options.{then_some}
-use Rattle.reinsertion_worth.specs.Worth.{worth}
-use Rattle.elimination_moves.specs.Eliminate.{without_route}
-use Rattle.emptied_route.specs.Attempts.{emptied, Accepted, Left}
+use Rattle.route_saving.specs.floats.Binary64.{◌⊕◌, is_finite}
+use Rattle.route_saving.specs.models.Vehicle.{fixed_cost_in_distance}
+use Rattle.route_saving.specs.models.Problem.{Problem}
+use Rattle.plan_copy.specs.plan.Plan.{Plan, route, saved}
+use Rattle.route_saving.specs.local_search.Options.{then_some}
+use Rattle.route_saving.specs.reinsertion_worth.Worth.{worth}
+use Rattle.route_saving.specs.elimination_moves.Eliminate.{without_route}
+use Rattle.route_saving.specs.emptied_route.Attempts.{emptied, Accepted, Left}
 
 -- ---- the answer: what is saved is not finite; or the attempt is made
 

@@ -3,18 +3,30 @@
 #![tactic(auto)]
 
 ghost use Rattle.std.specs.Prelude.{◌≡◌, ◌+◌, ◌≤◌, length};
-ghost use Rattle.models.specs.Problem.{matrix, problem};
-ghost use Rattle.plan.specs.Plan.{split};
-ghost use Rattle.local_search.specs.Options.{then_some};
-ghost use Rattle.route_cost.specs.Route.{gain_floor};
-ghost use Rattle.elimination_moves.specs.Eliminate.{without_route};
-ghost use Rattle.emptied_route.specs.Attempts.{Attempted, emptied, fewer, Left};
+ghost use Rattle.route_saving.specs.models.Problem.{matrix, problem};
+ghost use Rattle.plan_copy.specs.plan.Plan.{split};
+ghost use Rattle.route_saving.specs.local_search.Options.{then_some};
+ghost use Rattle.route_saving.specs.route_cost.Route.{gain_floor};
+ghost use Rattle.route_saving.specs.elimination_moves.Eliminate.{without_route};
+ghost use Rattle.route_saving.specs.emptied_route.Attempts.{Attempted, emptied, fewer, Left};
 
-use emptied_route::empty_route;
-use float_functions::is_finite;
-use models::vehicle::Vehicle;
+use route_saving::empty_route;
+use route_saving::is_finite;
+
 use plan_copy::{restore, save};
 use route_saving::saved_by;
+
+// Of the crates below, passed on to those above.
+pub use route_saving::Vehicle;
+pub use route_saving::has_soft_windows;
+pub use route_saving::Pick;
+pub use route_saving::next_pick;
+pub use plan_copy::drop_empty;
+pub use route_saving::route_cost_gain_floor;
+pub use route_saving::constrained;
+pub use route_saving::Counts;
+pub use route_saving::LocalSearchNext;
+pub use route_saving::Reduction;
 
 // Route r goes and its stops find other places, where that gains: else both slices are put back from the work cells.
 fn try_without(

@@ -9,10 +9,10 @@ use lib.ListN.{length, get_or, take, drop}
 use lib.Seq.{length-take-le, take_at, get_or-take}
 use lib.IntN.{ℤ}
 use borrow.Author.Rules.{rules}
-use Rattle.laws.specs.Edits.{erase, cut, cut_one, length_cut}
-use Rattle.laws.specs.Loops.{loop, loop_none, loop_more, loop_end, cond_rule}
-use Rattle.laws.specs.Sorts.{least_inside}
-use Rattle.models.specs.Problem.{Stops, Demands}
+use Rattle.reinsertion_candidates.specs.laws.Edits.{erase, cut, cut_one, length_cut}
+use Rattle.reinsertion_candidates.specs.laws.Loops.{loop, loop_none, loop_more, loop_end, cond_rule}
+use Rattle.reinsertion_candidates.specs.laws.Sorts.{least_inside}
+use Rattle.reinsertion_candidates.specs.models.Problem.{Stops, Demands}
 use Rattle.elimination_moves.specs.Largest.{larger, first_largest, larger_at, first_largest_is}
 
 pub stop_below : (n : ℕ) (left : List ℕ) (i : ℕ) → Stops n left → i < length left → get_or left i 0 < n

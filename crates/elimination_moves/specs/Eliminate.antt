@@ -4,20 +4,20 @@ use Rattle.std.specs.Prelude.{ℕ, List, cond, not, Float}
 use Rattle.std.proofs.Math.Option.{Option, none, some}
 use Rattle.std.specs.Int.Signed.{lt_z}
 use Rattle.std.specs.Float.Ieee.{lt, le}
-use Rattle.floats.specs.Binary64.{◌⊕◌, ◌⊖◌, 0f, is_finite}
-use Rattle.laws.specs.Edits.{erase}
-use Rattle.laws.specs.Loops.{foldl}
-use Rattle.laws.specs.Sorts.{sort_by}
-use Rattle.models.specs.Vehicle.{fixed_cost_in_distance}
-use Rattle.models.specs.Problem.{Problem}
-use Rattle.plan.specs.Plan.{Plan, route, put_in}
-use Rattle.local_search.specs.Options.{bind, then_some}
-use Rattle.route_cost.specs.declared.Insertion.{Insertion}
-use Rattle.route_cost.specs.Route.{gain_floor}
-use Rattle.route_load.specs.Feasible.{demand_at}
-use Rattle.local_search.specs.declared.rounds.Counts.{Counts}
-use Rattle.local_search.specs.Rounds.{Tried, reduce}
-use Rattle.reinsertion_worth.specs.Worth.{worth}
+use Rattle.reinsertion_candidates.specs.floats.Binary64.{◌⊕◌, ◌⊖◌, 0f, is_finite}
+use Rattle.reinsertion_candidates.specs.laws.Edits.{erase}
+use Rattle.reinsertion_candidates.specs.laws.Loops.{foldl}
+use Rattle.reinsertion_candidates.specs.laws.Sorts.{sort_by}
+use Rattle.reinsertion_candidates.specs.models.Vehicle.{fixed_cost_in_distance}
+use Rattle.reinsertion_candidates.specs.models.Problem.{Problem}
+use Rattle.reinsertion_candidates.specs.plan.Plan.{Plan, route, put_in}
+use Rattle.reinsertion_candidates.specs.local_search.Options.{bind, then_some}
+use Rattle.reinsertion_candidates.specs.route_cost.declared.Insertion.{Insertion}
+use Rattle.reinsertion_candidates.specs.route_cost.Route.{gain_floor}
+use Rattle.reinsertion_candidates.specs.route_load.Feasible.{demand_at}
+use Rattle.reinsertion_candidates.specs.local_search.declared.rounds.Counts.{Counts}
+use Rattle.reinsertion_candidates.specs.local_search.Rounds.{Tried, reduce}
+use Rattle.reinsertion_candidates.specs.reinsertion_worth.Worth.{worth}
 use Rattle.reinsertion_candidates.specs.Candidates.{candidates, by_cost, first_passing}
 
 -- the other routes so far, and what was added to their worth

@@ -8,26 +8,26 @@ use mathlib.Core.List.{List, [], ◌∷◌, map, flat_map}
 use Rattle.std.proofs.Math.Option.{Option, some}
 use Rattle.std.proofs.Math.ListN.{length}
 use Rattle.std.specs.Float.Ieee.{le}
-use Rattle.floats.specs.Binary64.{◌⊕◌, 0f, is_finite}
-use Rattle.laws.specs.All.{All, all_of, all_nil, all_cons, all_append}
-use Rattle.laws.specs.Edits.{erase, length_erase, all_erase}
-use Rattle.laws.specs.Keeps.{length_keep, all_keep}
-use Rattle.laws.specs.Counts.{count}
-use Rattle.laws.specs.Loops.{foldl, cond_rule}
-use Rattle.laws.specs.Sorts.{range, all_range, all_sort_by, count_sort_by}
-use Rattle.models.specs.Vehicle.{fixed_cost_in_distance}
-use Rattle.models.specs.Problem.{Problem}
-use Rattle.plan.specs.Plan.{Plan, route, non_empty, drop_empty, occurs}
-use Rattle.plan.specs.Routes.{length_put_in, occurs_put_in, all_put_in, occurs_erase}
-use Rattle.plan.specs.Dropped.{occurs_drop_empty}
-use Rattle.local_search.specs.Options.{bind, Each, each_then_some, each_bind}
-use Rattle.route_cost.specs.declared.Insertion.{Insertion}
-use Rattle.route_load.specs.Feasible.{has_room, checked, feasible}
-use Rattle.route_load.specs.RouteLaws.{has_room_fits}
-use Rattle.local_search.specs.declared.rounds.Counts.{Counts}
-use Rattle.local_search.specs.Rounds.{reduce}
-use Rattle.local_search.specs.Reduced.{Better, Reduces, reduces_fewer, triangle, Ended, reduce_ended}
-use Rattle.reinsertion_worth.specs.Worth.{worth}
+use Rattle.reinsertion_candidates.specs.floats.Binary64.{◌⊕◌, 0f, is_finite}
+use Rattle.reinsertion_candidates.specs.laws.All.{All, all_of, all_nil, all_cons, all_append}
+use Rattle.reinsertion_candidates.specs.laws.Edits.{erase, length_erase, all_erase}
+use Rattle.reinsertion_candidates.specs.laws.Keeps.{length_keep, all_keep}
+use Rattle.reinsertion_candidates.specs.laws.Counts.{count}
+use Rattle.reinsertion_candidates.specs.laws.Loops.{foldl, cond_rule}
+use Rattle.reinsertion_candidates.specs.laws.Sorts.{range, all_range, all_sort_by, count_sort_by}
+use Rattle.reinsertion_candidates.specs.models.Vehicle.{fixed_cost_in_distance}
+use Rattle.reinsertion_candidates.specs.models.Problem.{Problem}
+use Rattle.reinsertion_candidates.specs.plan.Plan.{Plan, route, non_empty, drop_empty, occurs}
+use Rattle.reinsertion_candidates.specs.plan.Routes.{length_put_in, occurs_put_in, all_put_in, occurs_erase}
+use Rattle.reinsertion_candidates.specs.plan.Dropped.{occurs_drop_empty}
+use Rattle.reinsertion_candidates.specs.local_search.Options.{bind, Each, each_then_some, each_bind}
+use Rattle.reinsertion_candidates.specs.route_cost.declared.Insertion.{Insertion}
+use Rattle.reinsertion_candidates.specs.route_load.Feasible.{has_room, checked, feasible}
+use Rattle.reinsertion_candidates.specs.route_load.RouteLaws.{has_room_fits}
+use Rattle.reinsertion_candidates.specs.local_search.declared.rounds.Counts.{Counts}
+use Rattle.reinsertion_candidates.specs.local_search.Rounds.{reduce}
+use Rattle.reinsertion_candidates.specs.local_search.Reduced.{Better, Reduces, reduces_fewer, triangle, Ended, reduce_ended}
+use Rattle.reinsertion_candidates.specs.reinsertion_worth.Worth.{worth}
 use Rattle.reinsertion_candidates.specs.Candidates.{positions, candidates_in, candidates, nowhere, trial, first_passing}
 use Rattle.elimination_moves.specs.Eliminate.{Moved, move_to, move_stop, moving, move_all, if_gained, without_route, attempt, eliminate_routes}
 

@@ -2,12 +2,12 @@
 use Rattle.std.specs.Prelude.{ℕ, ◌≡◌, refl, [], ◌∷◌, replicate, pos, Float}
 use Rattle.std.specs.Float.{binary64}
 use Rattle.std.specs.Float.Ieee.{of_int}
-use Rattle.models.specs.declared.vehicle.Limit.{Limit}
-use Rattle.models.specs.declared.vehicle.Limit.TheVariants.{None as NoLimit, At as LimitAt}
-use Rattle.models.specs.declared.vehicle.Rest.TheVariants.{None as NoRest}
-use Rattle.models.specs.declared.vehicle.Vehicle.{Vehicle}
-use Rattle.models.specs.Problem.{Problem, problem}
-use Rattle.plan.specs.Plan.{Plan}
+use Rattle.reinsertion_candidates.specs.models.declared.vehicle.Limit.{Limit}
+use Rattle.reinsertion_candidates.specs.models.declared.vehicle.Limit.TheVariants.{None as NoLimit, At as LimitAt}
+use Rattle.reinsertion_candidates.specs.models.declared.vehicle.Rest.TheVariants.{None as NoRest}
+use Rattle.reinsertion_candidates.specs.models.declared.vehicle.Vehicle.{Vehicle}
+use Rattle.reinsertion_candidates.specs.models.Problem.{Problem, problem}
+use Rattle.reinsertion_candidates.specs.plan.Plan.{Plan}
 use Rattle.elimination_moves.specs.Eliminate.{moving, eliminate_routes}
 use Rattle.elimination_moves.specs.Opened.{opened}
 

@@ -2,11 +2,11 @@
 -- Taken out of what is left, they are `moving`. Assumes nothing.
 use Rattle.std.specs.Prelude.{ℕ, suc, ◌≡◌, refl, List, ◌∷◌, Bool, cond, length, get_or, ℤ}
 use Rattle.std.specs.Int.Signed.{lt_z}
-use Rattle.laws.specs.Edits.{erase}
-use Rattle.laws.specs.Loops.{loop}
-use Rattle.laws.specs.Sorts.{least_at, smallest, sort_by}
-use Rattle.models.specs.Problem.{Problem}
-use Rattle.route_load.specs.Feasible.{demand_at}
+use Rattle.reinsertion_candidates.specs.laws.Edits.{erase}
+use Rattle.reinsertion_candidates.specs.laws.Loops.{loop}
+use Rattle.reinsertion_candidates.specs.laws.Sorts.{least_at, smallest, sort_by}
+use Rattle.reinsertion_candidates.specs.models.Problem.{Problem}
+use Rattle.reinsertion_candidates.specs.route_load.Feasible.{demand_at}
 use Rattle.elimination_moves.specs.Eliminate.{moving}
 
 -- the demand of c is larger than that of d

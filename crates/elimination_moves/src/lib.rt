@@ -3,11 +3,11 @@
 #![tactic(auto)]
 
 ghost use Rattle.std.specs.Prelude.{◌≡◌, ◌-◌, ◌<◌, ◌≤◌, length, get_or, take};
-ghost use Rattle.laws.specs.Edits.{erase};
-ghost use Rattle.models.specs.Problem.{Stops, Demands};
+ghost use Rattle.reinsertion_candidates.specs.laws.Edits.{erase};
+ghost use Rattle.reinsertion_candidates.specs.models.Problem.{Stops, Demands};
 ghost use Rattle.elimination_moves.specs.Largest.{larger, first_largest, larger_at};
 
-use cell_shifts::cut;
+use reinsertion_candidates::cut;
 
 // Whether the demand of c is larger than that of d.
 fn larger(c: usize, d: usize, demand: &[i32]) -> bool

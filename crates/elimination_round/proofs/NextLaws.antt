@@ -6,21 +6,21 @@ use mathlib.Core.List.{List, [], ◌∷◌, ◌++◌}
 use mathlib.Core.Option.{Option, none, some}
 use native.Mathlib.Omega.{arith}
 use lib.ListN.{length, take}
-use Rattle.models.specs.Problem.{Problem}
-use Rattle.route_order.specs.declared.Pick.{Pick}
-use Rattle.route_order.specs.declared.Pick.TheVariants.{At}
-use Rattle.plan.specs.Plan.{Plan, split, total}
-use Rattle.route_order.specs.Order.{next_pick, following}
-use Rattle.local_search.specs.Options.{then_some}
-use Rattle.route_load.specs.Feasible.{constrained}
-use Rattle.local_search.specs.Rounds.{Tried, try_each}
-use Rattle.local_search.specs.Search.{EndsWith0, but_last, Refused, Taken, uncounted}
-use Rattle.local_search.proofs.NextLaws.{pick_there, next_kept, next_refused, next_accepted, next_taken}
-use Rattle.reinsertion_worth.specs.Worth.{soft}
-use Rattle.elimination_moves.specs.Eliminate.{without_route, attempt}
-use Rattle.emptied_route.specs.Attempts.{Attempted, fewer, Left}
+use Rattle.elimination_attempt.specs.models.Problem.{Problem}
+use Rattle.elimination_attempt.specs.route_order.declared.Pick.{Pick}
+use Rattle.elimination_attempt.specs.route_order.declared.Pick.TheVariants.{At}
+use Rattle.elimination_attempt.specs.plan.Plan.{Plan, split, total}
+use Rattle.elimination_attempt.specs.route_order.Order.{next_pick, following}
+use Rattle.elimination_attempt.specs.local_search.Options.{then_some}
+use Rattle.elimination_attempt.specs.route_load.Feasible.{constrained}
+use Rattle.elimination_attempt.specs.local_search.Rounds.{Tried, try_each}
+use Rattle.elimination_attempt.specs.local_search.Search.{EndsWith0, but_last, Refused, Taken, uncounted}
+use Rattle.elimination_attempt.proofs.of_local_search.NextLaws.{pick_there, next_kept, next_refused, next_accepted, next_taken}
+use Rattle.elimination_attempt.specs.reinsertion_worth.Worth.{soft}
+use Rattle.elimination_attempt.specs.elimination_moves.Eliminate.{without_route, attempt}
+use Rattle.elimination_attempt.specs.emptied_route.Attempts.{Attempted, fewer, Left}
 use Rattle.elimination_round.specs.Eliminating.{Eliminating}
-use Rattle.elimination_moves.specs.Eliminated.{attempt_reduces}
+use Rattle.elimination_attempt.specs.elimination_moves.Eliminated.{attempt_reduces}
 
 module _ (ls : List ℕ) (last x : Pick) (e : x ≡ next_pick ls last) (r l : ℕ) (h : x ≡ At r l) (p : Problem) (s work : List ℕ) (g : Eliminating p ls s work) where
   pub next_attempted : (v needed : Bool) → v ≡ soft p → needed ≡ constrained p → Attempted p v needed ls s r

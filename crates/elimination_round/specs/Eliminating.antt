@@ -1,8 +1,8 @@
 -- What the search asks for. Assumes nothing.
 use Rattle.std.specs.Prelude.{ℕ, ◌≤◌, ◌≡◌, List, length}
-use Rattle.models.specs.Problem.{Problem, Admitted}
-use Rattle.plan.specs.Plan.{split, total}
-use Rattle.local_search.specs.Planned.{Planned}
+use Rattle.elimination_attempt.specs.models.Problem.{Problem, Admitted}
+use Rattle.elimination_attempt.specs.plan.Plan.{split, total}
+use Rattle.elimination_attempt.specs.local_search.Planned.{Planned}
 
 -- a search, or an attempt of it, over a plan that fills both slices; the work cells have room for both
 pub record Eliminating (p : Problem) (lengths stops work : List ℕ) : Type 0 where

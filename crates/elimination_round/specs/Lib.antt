@@ -1,2 +1,8 @@
 -- What the search asks for.
 pub mod Eliminating
+-- crates below, passed on to those above
+pub use Rattle.elimination_attempt.specs.models as models
+pub use Rattle.elimination_attempt.specs.plan as plan
+pub use Rattle.elimination_attempt.specs.route_order as route_order
+pub use Rattle.elimination_attempt.specs.local_search as local_search
+pub use Rattle.elimination_attempt.specs.elimination_moves as elimination_moves

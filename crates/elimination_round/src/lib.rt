@@ -3,21 +3,32 @@
 #![tactic(auto)]
 
 ghost use Rattle.std.specs.Prelude.{◌≡◌};
-ghost use Rattle.models.specs.Problem.{matrix, problem};
-ghost use Rattle.plan.specs.Plan.{split};
-ghost use Rattle.route_order.specs.Order.{following};
-ghost use Rattle.route_load.specs.Feasible.{constrained};
-ghost use Rattle.route_cost.specs.Route.{gain_floor};
-ghost use Rattle.local_search.specs.Rounds.{try_each};
-ghost use Rattle.local_search.specs.Search.{but_last, tried_next, NextLeaves, uncounted};
-ghost use Rattle.reinsertion_worth.specs.Worth.{soft as soft-in};
-ghost use Rattle.elimination_moves.specs.Eliminate.{attempt};
+ghost use Rattle.elimination_attempt.specs.models.Problem.{matrix, problem};
+ghost use Rattle.elimination_attempt.specs.plan.Plan.{split};
+ghost use Rattle.elimination_attempt.specs.route_order.Order.{following};
+ghost use Rattle.elimination_attempt.specs.route_load.Feasible.{constrained};
+ghost use Rattle.elimination_attempt.specs.route_cost.Route.{gain_floor};
+ghost use Rattle.elimination_attempt.specs.local_search.Rounds.{try_each};
+ghost use Rattle.elimination_attempt.specs.local_search.Search.{but_last, tried_next, NextLeaves, uncounted};
+ghost use Rattle.elimination_attempt.specs.reinsertion_worth.Worth.{soft as soft-in};
+ghost use Rattle.elimination_attempt.specs.elimination_moves.Eliminate.{attempt};
 ghost use Rattle.elimination_round.specs.Eliminating.{Eliminating};
 
 use elimination_attempt::without_route;
-use local_search::rounds::{Counts, Next};
-use models::vehicle::Vehicle;
-use route_order::{Pick, next_pick};
+use elimination_attempt::LocalSearchNext as Next;
+
+use elimination_attempt::next_pick;
+
+// Of the crates below, passed on to those above.
+pub use elimination_attempt::Vehicle;
+pub use elimination_attempt::has_soft_windows;
+pub use elimination_attempt::Pick;
+pub use elimination_attempt::drop_empty;
+pub use elimination_attempt::route_cost_gain_floor;
+pub use elimination_attempt::constrained;
+pub use elimination_attempt::Counts;
+pub use elimination_attempt::LocalSearchNext;
+pub use elimination_attempt::Reduction;
 
 // The attempt at the route that comes next after the last pick. It counts nothing.
 pub fn try_next(

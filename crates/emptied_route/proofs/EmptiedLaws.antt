@@ -9,21 +9,21 @@ use lib.ListN.{length, get_or, take, drop, length-drop, length-append}
 use lib.Seq.{paste, take-paste, take_at, drop_at, length-take-le}
 use lib.Ieee.{Float, lt}
 use borrow.Author.Rules.{rules}
-use Rattle.floats.specs.Binary64.{◌⊖◌}
-use Rattle.laws.specs.All.{All, all_get}
-use Rattle.laws.specs.Edits.{erase, length_erase, all_erase}
-use Rattle.models.specs.Problem.{Problem, Stops}
-use Rattle.plan.specs.Plan.{Plan, Holds, Lent, split, route, total, offset}
-use Rattle.plan.specs.Slices.{flat_split, route_split, route_within, length_split, length_route, total_erase}
-use Rattle.local_search.specs.Options.{bind, then_some}
-use Rattle.route_cost.specs.Route.{gain_floor}
-use Rattle.local_search.specs.Planned.{planned_stops}
-use Rattle.route_cost.proofs.VisitLaws.{Visiting}
-use Rattle.elimination_moves.specs.Eliminate.{Moved, moving, move_all, if_gained}
-use Rattle.stop_moves.specs.declared.Sum.{Sum}
-use Rattle.stop_moves.specs.declared.Sum.TheVariants.{Nothing, At}
-use Rattle.elimination_moves.specs.Largest.{in_order, moving_is}
-use Rattle.stop_moves.specs.Moves.{held_by, Waiting, Grown, Kept}
+use Rattle.moved_stops.specs.floats.Binary64.{◌⊖◌}
+use Rattle.route_removal.specs.laws.All.{All, all_get}
+use Rattle.route_removal.specs.laws.Edits.{erase, length_erase, all_erase}
+use Rattle.moved_stops.specs.models.Problem.{Problem, Stops}
+use Rattle.route_removal.specs.plan.Plan.{Plan, Holds, Lent, split, route, total, offset}
+use Rattle.route_removal.specs.plan.Slices.{flat_split, route_split, route_within, length_split, length_route, total_erase}
+use Rattle.moved_stops.specs.local_search.Options.{bind, then_some}
+use Rattle.moved_stops.specs.route_cost.Route.{gain_floor}
+use Rattle.moved_stops.specs.local_search.Planned.{planned_stops}
+use Rattle.moved_stops.proofs.of_route_cost.VisitLaws.{Visiting}
+use Rattle.moved_stops.specs.elimination_moves.Eliminate.{Moved, moving, move_all, if_gained}
+use Rattle.moved_stops.specs.stop_moves.declared.Sum.{Sum}
+use Rattle.moved_stops.specs.stop_moves.declared.Sum.TheVariants.{Nothing, At}
+use Rattle.moved_stops.specs.elimination_moves.Largest.{in_order, moving_is}
+use Rattle.moved_stops.specs.stop_moves.Moves.{held_by, Waiting, Grown, Kept}
 use Rattle.emptied_route.specs.Attempts.{Attempted, emptied, fewer, Accepted}
 
 -- ---- where route r lies

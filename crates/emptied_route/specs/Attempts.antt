@@ -1,14 +1,14 @@
 -- What the code asks of an attempt, and what it leaves of the two slices. Assumes nothing.
 use Rattle.std.specs.Prelude.{ℕ, ◌-◌, ◌<◌, ◌≡◌, Bool, true, false, List, [], ◌∷◌, ◌++◌, length, take, Float}
 use Rattle.std.proofs.Math.Option.{Option}
-use Rattle.laws.specs.Edits.{erase}
-use Rattle.models.specs.Problem.{Problem, Admitted}
-use Rattle.plan.specs.Plan.{Plan, Lent, split, route, total}
-use Rattle.local_search.specs.Options.{bind}
-use Rattle.route_load.specs.Feasible.{constrained}
-use Rattle.local_search.specs.Planned.{Planned}
-use Rattle.reinsertion_worth.specs.Worth.{soft}
-use Rattle.elimination_moves.specs.Eliminate.{moving, move_all, if_gained}
+use Rattle.route_removal.specs.laws.Edits.{erase}
+use Rattle.moved_stops.specs.models.Problem.{Problem, Admitted}
+use Rattle.route_removal.specs.plan.Plan.{Plan, Lent, split, route, total}
+use Rattle.moved_stops.specs.local_search.Options.{bind}
+use Rattle.moved_stops.specs.route_load.Feasible.{constrained}
+use Rattle.moved_stops.specs.local_search.Planned.{Planned}
+use Rattle.moved_stops.specs.reinsertion_worth.Worth.{soft}
+use Rattle.moved_stops.specs.elimination_moves.Eliminate.{moving, move_all, if_gained}
 
 -- route r is to go from a plan
 pub record Attempted (p : Problem) (s needed : Bool) (lengths stops : List ℕ) (r : ℕ) : Type 0 where

@@ -2,21 +2,35 @@
 #![tactic(auto)]
 
 ghost use Rattle.std.specs.Prelude.{◌≡◌, true, ◌++◌, ◌+◌, ◌-◌, ◌<◌, ◌≤◌, length, get_or, take, drop};
-ghost use Rattle.models.specs.Problem.{matrix, problem};
-ghost use Rattle.plan.specs.Plan.{Lent, split, route, total};
-ghost use Rattle.local_search.specs.Options.{then_some};
-ghost use Rattle.route_cost.specs.Route.{gain_floor};
-ghost use Rattle.elimination_moves.specs.Eliminate.{move_all};
-ghost use Rattle.elimination_moves.specs.Largest.{in_order};
-ghost use Rattle.stop_moves.specs.Moves.{held_by, Waiting, Kept};
+ghost use Rattle.moved_stops.specs.models.Problem.{matrix, problem};
+ghost use Rattle.route_removal.specs.plan.Plan.{Lent, split, route, total};
+ghost use Rattle.moved_stops.specs.local_search.Options.{then_some};
+ghost use Rattle.moved_stops.specs.route_cost.Route.{gain_floor};
+ghost use Rattle.moved_stops.specs.elimination_moves.Eliminate.{move_all};
+ghost use Rattle.moved_stops.specs.elimination_moves.Largest.{in_order};
+ghost use Rattle.moved_stops.specs.stop_moves.Moves.{held_by, Waiting, Kept};
 ghost use Rattle.emptied_route.specs.Attempts.{Attempted, emptied, fewer, Accepted};
 
-use cells::copy_part;
-use models::vehicle::Vehicle;
+use route_removal::copy_part;
+
 use moved_stops::move_all;
-use plan::offset;
+
 use route_removal::erase_route;
-use stop_moves::Sum;
+use moved_stops::Sum;
+
+// Of the crates below, passed on to those above.
+pub use moved_stops::is_finite;
+pub use moved_stops::Vehicle;
+pub use moved_stops::has_soft_windows;
+pub use route_removal::offset;
+pub use moved_stops::Pick;
+pub use moved_stops::next_pick;
+pub use moved_stops::route_cost_gain_floor;
+pub use moved_stops::constrained;
+pub use moved_stops::Counts;
+pub use moved_stops::LocalSearchNext;
+pub use moved_stops::Reduction;
+pub use moved_stops::worth;
 
 // The stops of route r become the first of the cells.
 fn keep_route(left: &mut [u16], lengths: &[u16], stops: &[u16], r: usize)

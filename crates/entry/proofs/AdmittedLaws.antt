@@ -8,15 +8,15 @@ use native.Mathlib.Omega.{arith}
 use borrow.Author.Tests.{ltb-true, ltb-false, eqb-true}
 use lib.ListN.{length, get_or, take}
 use lib.Dec.{eqb, ltb}
-use Rattle.laws.specs.Counts.{count}
-use Rattle.laws.specs.Searches.{and_first, every_at, or_neither}
-use Rattle.models.specs.declared.vehicle.Rest.TheVariants.{Break}
-use Rattle.models.specs.declared.vehicle.VehicleBreak.{VehicleBreak}
-use Rattle.models.specs.Problem.{Problem, Stops, Admitted}
-use Rattle.models.specs.Valid.{rest_passes, sizes_pass, values_pass, windows_pass, depot_passes, valid}
-use Rattle.models.proofs.ValidLaws.{valid_count, valid_fit, valid_demands, valid_depot}
-use Rattle.plan.specs.Plan.{Slices, total, split}
-use Rattle.plan.specs.Slices.{flat_split_all}
+use Rattle.local_search.specs.laws.Counts.{count}
+use Rattle.local_search.specs.laws.Searches.{and_first, every_at, or_neither}
+use Rattle.local_search.specs.models.declared.vehicle.Rest.TheVariants.{Break}
+use Rattle.local_search.specs.models.declared.vehicle.VehicleBreak.{VehicleBreak}
+use Rattle.local_search.specs.models.Problem.{Problem, Stops, Admitted}
+use Rattle.local_search.specs.models.Valid.{rest_passes, sizes_pass, values_pass, windows_pass, depot_passes, valid}
+use Rattle.local_search.proofs.of_models.ValidLaws.{valid_count, valid_fit, valid_demands, valid_depot}
+use Rattle.local_search.specs.plan.Plan.{Slices, total, split}
+use Rattle.local_search.specs.plan.Slices.{flat_split_all}
 use Rattle.local_search.specs.Planned.{Planned}
 use Rattle.entry.specs.Table.{Work, stop_passes, stops_pass, bad_lengths, is_empty, too_few, refusal}
 use Rattle.entry.specs.Given.{numbered, problem_inputs, route_inputs, schedule_inputs, eliminate_inputs, minimise_inputs}

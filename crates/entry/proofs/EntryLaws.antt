@@ -8,10 +8,10 @@ use mathlib.Core.Option.{Option, none, some}
 use borrow.Author.Tests.{ltb-false, le-ltb, eqb-true, eq-eqb}
 use lib.ListN.{length, drop}
 use lib.Dec.{eqb, ltb}
-use Rattle.laws.specs.Searches.{and_first, and_second, or_neither}
-use Rattle.models.specs.Problem.{Problem}
-use Rattle.models.specs.Valid.{sizes_pass, values_pass, windows_pass, depot_passes, valid}
-use Rattle.plan.specs.Plan.{Slices, total}
+use Rattle.local_search.specs.laws.Searches.{and_first, and_second, or_neither}
+use Rattle.local_search.specs.models.Problem.{Problem}
+use Rattle.local_search.specs.models.Valid.{sizes_pass, values_pass, windows_pass, depot_passes, valid}
+use Rattle.local_search.specs.plan.Plan.{Slices, total}
 use Rattle.entry.specs.Table.{Work, Inputs, bad_lengths, stops_pass, table, first_applying, refusal}
 use Rattle.entry.specs.Given.{entry}
 use Rattle.entry.proofs.StopsLaws.{both}

@@ -10,10 +10,10 @@ use borrow.Author.Tests.{eqb-true, eqb-false, eq-eqb, ltb-true}
 use lib.ListN.{length, get_or, take, drop}
 use lib.Seq.{take-suc, take_all, drop-cons}
 use lib.Dec.{eqb, ltb}
-use Rattle.laws.specs.Counts.{one_if, count, count_append, count_parts}
-use Rattle.laws.specs.Keeps.{keep}
-use Rattle.laws.specs.Searches.{any, every, and_first, and_second, every_at}
-use Rattle.models.specs.Problem.{Problem, depot}
+use Rattle.local_search.specs.laws.Counts.{one_if, count, count_append, count_parts}
+use Rattle.local_search.specs.laws.Keeps.{keep}
+use Rattle.local_search.specs.laws.Searches.{any, every, and_first, and_second, every_at}
+use Rattle.local_search.specs.models.Problem.{Problem, depot}
 use Rattle.entry.specs.Table.{stop_passes, stops_pass}
 
 pub both : {a b : Bool} → a ≡ true → b ≡ true → (a && b) ≡ true

@@ -1,9 +1,9 @@
 -- What each public call gives the table. Assumes nothing.
 use Rattle.std.specs.Prelude.{ℕ, zero, suc, List}
 use Rattle.std.proofs.Math.Option.{Option, none, some}
-use Rattle.models.specs.declared.vehicle.VehicleBreak.{VehicleBreak}
-use Rattle.models.specs.Problem.{Problem}
-use Rattle.plan.specs.Plan.{Slices}
+use Rattle.local_search.specs.models.declared.vehicle.VehicleBreak.{VehicleBreak}
+use Rattle.local_search.specs.models.Problem.{Problem}
+use Rattle.local_search.specs.plan.Plan.{Slices}
 use Rattle.entry.specs.Table.{Work, Inputs, refusal}
 
 -- a call that is given the problem alone

@@ -7,3 +7,14 @@ pub mod Given
 pub mod Rows
 -- row 6 in code: the stops so far, marked
 pub mod Marks
+-- crates below, passed on to those above
+pub use Rattle.local_search.specs.laws as laws
+pub use Rattle.local_search.specs.floats as floats
+pub use Rattle.local_search.specs.models as models
+pub use Rattle.local_search.specs.distance as distance
+pub use Rattle.local_search.specs.labels as labels
+pub use Rattle.local_search.specs.break_clock as break_clock
+pub use Rattle.local_search.specs.evaluation as evaluation
+pub use Rattle.local_search.specs.plan as plan
+pub use Rattle.local_search.specs.route_cost as route_cost
+pub use Rattle.local_search.specs as local_search

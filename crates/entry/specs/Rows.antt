@@ -2,11 +2,11 @@
 use Rattle.std.specs.Prelude.{ℕ, Bool, true, false, cond, not, ◌||◌, List, ◌≡◌, ltb}
 use Rattle.std.proofs.Math.Option.{Option, none, some}
 use Rattle.std.proofs.Math.Path.{refl}
-use Rattle.models.specs.declared.vehicle.Rest.TheVariants.{Break}
-use Rattle.models.specs.declared.vehicle.VehicleBreak.{VehicleBreak}
-use Rattle.models.specs.Problem.{Problem}
-use Rattle.models.specs.Valid.{rest_passes, sizes_pass, values_pass, windows_pass, depot_passes}
-use Rattle.plan.specs.Plan.{Slices}
+use Rattle.local_search.specs.models.declared.vehicle.Rest.TheVariants.{Break}
+use Rattle.local_search.specs.models.declared.vehicle.VehicleBreak.{VehicleBreak}
+use Rattle.local_search.specs.models.Problem.{Problem}
+use Rattle.local_search.specs.models.Valid.{rest_passes, sizes_pass, values_pass, windows_pass, depot_passes}
+use Rattle.local_search.specs.plan.Plan.{Slices}
 use Rattle.entry.specs.Table.{Work, bad_break, bad_lengths, stops_pass, is_empty, too_few, table, first_applying, refusal}
 use Rattle.entry.specs.Given.{problem_inputs, route_inputs, schedule_inputs, eliminate_inputs, minimise_inputs}
 

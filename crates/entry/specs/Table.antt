@@ -1,12 +1,12 @@
 -- The refusal table ("The problem and the entry checks"): one list of rows in order. Every public call reads its refusal from it. Assumes nothing.
 use Rattle.std.specs.Prelude.{ℕ, List, [], ◌∷◌, Bool, true, false, cond, not, ◌&&◌, ◌||◌, length, get_or, take, eqb, ltb}
 use Rattle.std.proofs.Math.Option.{Option, none, some}
-use Rattle.laws.specs.Searches.{any, every}
-use Rattle.models.specs.declared.vehicle.Rest.TheVariants.{Break}
-use Rattle.models.specs.declared.vehicle.VehicleBreak.{VehicleBreak}
-use Rattle.models.specs.Problem.{Problem, depot}
-use Rattle.models.specs.Valid.{rest_passes, sizes_pass, values_pass, windows_pass, depot_passes}
-use Rattle.plan.specs.Plan.{Slices, total}
+use Rattle.local_search.specs.laws.Searches.{any, every}
+use Rattle.local_search.specs.models.declared.vehicle.Rest.TheVariants.{Break}
+use Rattle.local_search.specs.models.declared.vehicle.VehicleBreak.{VehicleBreak}
+use Rattle.local_search.specs.models.Problem.{Problem, depot}
+use Rattle.local_search.specs.models.Valid.{rest_passes, sizes_pass, values_pass, windows_pass, depot_passes}
+use Rattle.local_search.specs.plan.Plan.{Slices, total}
 
 -- how many work cells a call is lent; no row asks what is in them
 pub record Work : Type 0 where

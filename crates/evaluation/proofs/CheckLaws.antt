@@ -5,38 +5,38 @@ use mathlib.Core.Bool.{Bool, true, false}
 use mathlib.Core.List.{List}
 use lib.ListN.{length, get_or, take, drop}
 use lib.Ieee.{Float}
-use Rattle.floats.specs.Binary64.{◌⊕◌}
-use Rattle.laws.specs.All.{All, all_take}
-use Rattle.laws.specs.Edits.{insert_at, all_insert_at}
-use Rattle.laws.specs.Walks.{Walking, walking_start, walking_on, walking_stuck, walking_end, walk_insert, walk_rule}
-use Rattle.models.specs.declared.customer.TimeWindow.{TimeWindow}
-use Rattle.models.specs.declared.customer.Window.TheVariants.{None as NoWindow, Is as WindowIs}
-use Rattle.models.specs.declared.customer.Penalty.TheVariants.{None as NoPenalty, Of as PenaltyOf}
-use Rattle.models.specs.declared.customer.Customer.{Customer}
-use Rattle.models.specs.declared.vehicle.Rest.TheVariants.{None as NoRest, Break}
-use Rattle.models.specs.declared.vehicle.VehicleBreak.{VehicleBreak}
-use Rattle.models.specs.declared.limits.RouteLimits.{RouteLimits}
-use Rattle.models.specs.TimeWindow.{waiting_time, is_violated}
-use Rattle.models.specs.Customer.{Customers, customer_at}
-use Rattle.models.specs.Vehicle.{vehicle_break_new}
-use Rattle.models.specs.RouteLimits.{allow}
-use Rattle.models.specs.Problem.{DistanceMatrix, matrix, Fit, Stops}
-use Rattle.distance.specs.Matrix.{get, travel_time}
+use Rattle.break_schedule.specs.floats.Binary64.{◌⊕◌}
+use Rattle.break_schedule.specs.laws.All.{All, all_take}
+use Rattle.break_schedule.specs.laws.Edits.{insert_at, all_insert_at}
+use Rattle.break_schedule.specs.laws.Walks.{Walking, walking_start, walking_on, walking_stuck, walking_end, walk_insert, walk_rule}
+use Rattle.break_schedule.specs.models.declared.customer.TimeWindow.{TimeWindow}
+use Rattle.break_schedule.specs.models.declared.customer.Window.TheVariants.{None as NoWindow, Is as WindowIs}
+use Rattle.break_schedule.specs.models.declared.customer.Penalty.TheVariants.{None as NoPenalty, Of as PenaltyOf}
+use Rattle.break_schedule.specs.models.declared.customer.Customer.{Customer}
+use Rattle.break_schedule.specs.models.declared.vehicle.Rest.TheVariants.{None as NoRest, Break}
+use Rattle.break_schedule.specs.models.declared.vehicle.VehicleBreak.{VehicleBreak}
+use Rattle.break_schedule.specs.models.declared.limits.RouteLimits.{RouteLimits}
+use Rattle.break_schedule.specs.models.TimeWindow.{waiting_time, is_violated}
+use Rattle.break_schedule.specs.models.Customer.{Customers, customer_at}
+use Rattle.break_schedule.specs.models.Vehicle.{vehicle_break_new}
+use Rattle.break_schedule.specs.models.RouteLimits.{allow}
+use Rattle.break_schedule.specs.models.Problem.{DistanceMatrix, matrix, Fit, Stops}
+use Rattle.break_schedule.specs.distance.Matrix.{get, travel_time}
 use Rattle.evaluation.specs.declared.check.Way.{Way}
 use Rattle.evaluation.specs.declared.check.Reached.{Reached}
 use Rattle.evaluation.specs.declared.check.Reached.TheVariants.{Late, At as WayAt}
 use Rattle.evaluation.specs.declared.check.Left.{Left}
 use Rattle.evaluation.specs.declared.check.Left.TheVariants.{Missed, At as LeftAt}
-use Rattle.break_clock.specs.declared.route_eval.Eval.{Eval}
-use Rattle.break_clock.specs.declared.route_eval.Eval.TheVariants.{Infeasible}
-use Rattle.break_clock.specs.declared.schedule.Riding.{Riding}
-use Rattle.break_clock.specs.declared.schedule.Ridden.{Ridden}
-use Rattle.break_clock.specs.declared.schedule.Ridden.TheVariants.{Stuck as RideStuck, At as RideAt}
-use Rattle.break_clock.specs.Schedule.{schedule, ride_all, ride_home, set_out as ride-out}
+use Rattle.break_schedule.specs.break_clock.declared.route_eval.Eval.{Eval}
+use Rattle.break_schedule.specs.break_clock.declared.route_eval.Eval.TheVariants.{Infeasible}
+use Rattle.break_schedule.specs.break_clock.declared.schedule.Riding.{Riding}
+use Rattle.break_schedule.specs.break_clock.declared.schedule.Ridden.{Ridden}
+use Rattle.break_schedule.specs.break_clock.declared.schedule.Ridden.TheVariants.{Stuck as RideStuck, At as RideAt}
+use Rattle.break_schedule.specs.break_clock.Schedule.{schedule, ride_all, ride_home, set_out as ride-out}
 use Rattle.evaluation.specs.Eval.{is_feasible, limited}
 use Rattle.evaluation.specs.Check.{departure_in, departure, set_out, reached, reach, onward, reach_all, home_allowed, homeward, feasible_with, route_feasible}
-use Rattle.break_clock.proofs.StopLaws.{stops_all, tail_part}
-use Rattle.break_clock.proofs.ScheduleLaws.{schedule_stuck, schedule_home}
+use Rattle.break_schedule.proofs.of_break_clock.StopLaws.{stops_all, tail_part}
+use Rattle.break_schedule.proofs.of_break_clock.ScheduleLaws.{schedule_stuck, schedule_home}
 
 -- ---- departure: no window; in time; late without a penalty; late with one
 

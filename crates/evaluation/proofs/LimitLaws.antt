@@ -1,11 +1,11 @@
 -- Laws of specs/Eval on the limits, each from the facts that the code has where it needs it. Assumes nothing.
 use mathlib.Core.Path.{◌≡◌}
 use mathlib.Core.Bool.{Bool, true, false}
-use Rattle.models.specs.declared.limits.RouteLimits.{RouteLimits}
-use Rattle.models.specs.RouteLimits.{allow}
-use Rattle.break_clock.specs.declared.route_eval.RouteEval.{RouteEval}
-use Rattle.break_clock.specs.declared.route_eval.Eval.{Eval}
-use Rattle.break_clock.specs.declared.route_eval.Eval.TheVariants.{Infeasible, Feasible}
+use Rattle.break_schedule.specs.models.declared.limits.RouteLimits.{RouteLimits}
+use Rattle.break_schedule.specs.models.RouteLimits.{allow}
+use Rattle.break_schedule.specs.break_clock.declared.route_eval.RouteEval.{RouteEval}
+use Rattle.break_schedule.specs.break_clock.declared.route_eval.Eval.{Eval}
+use Rattle.break_schedule.specs.break_clock.declared.route_eval.Eval.TheVariants.{Infeasible, Feasible}
 use Rattle.evaluation.specs.Eval.{limited}
 
 -- ---- an evaluation and the limits

@@ -1,28 +1,28 @@
 -- Whether a route passes (evaluation/mod.rs; "One stop, one route"). Assumes nothing.
 use Rattle.std.specs.Prelude.{ℕ, List, Bool, false, cond, not, ◌&&◌, ◌||◌, Float}
-use Rattle.floats.specs.Binary64.{◌⊕◌, 0f}
-use Rattle.laws.specs.Searches.{any}
-use Rattle.laws.specs.Walks.{walk}
-use Rattle.models.specs.declared.customer.Window.{Window}
-use Rattle.models.specs.declared.customer.Window.TheVariants.{None as NoWindow, Is as WindowIs}
-use Rattle.models.specs.declared.customer.Penalty.{Penalty}
-use Rattle.models.specs.declared.customer.Penalty.TheVariants.{None as NoPenalty, Of as PenaltyOf}
-use Rattle.models.specs.declared.customer.Customer.{Customer}
-use Rattle.models.specs.declared.vehicle.Rest.{Rest}
-use Rattle.models.specs.declared.vehicle.Rest.TheVariants.{None as NoRest, Break}
-use Rattle.models.specs.declared.limits.RouteLimits.{RouteLimits}
-use Rattle.models.specs.TimeWindow.{waiting_time, is_violated}
-use Rattle.models.specs.Customer.{Customers, customer_at, windowed, penalised}
-use Rattle.models.specs.Vehicle.{vehicle_break_new}
-use Rattle.models.specs.RouteLimits.{is_unlimited, allow}
-use Rattle.models.specs.Problem.{DistanceMatrix}
-use Rattle.distance.specs.Matrix.{get, travel_time}
+use Rattle.break_schedule.specs.floats.Binary64.{◌⊕◌, 0f}
+use Rattle.break_schedule.specs.laws.Searches.{any}
+use Rattle.break_schedule.specs.laws.Walks.{walk}
+use Rattle.break_schedule.specs.models.declared.customer.Window.{Window}
+use Rattle.break_schedule.specs.models.declared.customer.Window.TheVariants.{None as NoWindow, Is as WindowIs}
+use Rattle.break_schedule.specs.models.declared.customer.Penalty.{Penalty}
+use Rattle.break_schedule.specs.models.declared.customer.Penalty.TheVariants.{None as NoPenalty, Of as PenaltyOf}
+use Rattle.break_schedule.specs.models.declared.customer.Customer.{Customer}
+use Rattle.break_schedule.specs.models.declared.vehicle.Rest.{Rest}
+use Rattle.break_schedule.specs.models.declared.vehicle.Rest.TheVariants.{None as NoRest, Break}
+use Rattle.break_schedule.specs.models.declared.limits.RouteLimits.{RouteLimits}
+use Rattle.break_schedule.specs.models.TimeWindow.{waiting_time, is_violated}
+use Rattle.break_schedule.specs.models.Customer.{Customers, customer_at, windowed, penalised}
+use Rattle.break_schedule.specs.models.Vehicle.{vehicle_break_new}
+use Rattle.break_schedule.specs.models.RouteLimits.{is_unlimited, allow}
+use Rattle.break_schedule.specs.models.Problem.{DistanceMatrix}
+use Rattle.break_schedule.specs.distance.Matrix.{get, travel_time}
 use Rattle.evaluation.specs.declared.check.Way.{Way}
 use Rattle.evaluation.specs.declared.check.Reached.{Reached}
 use Rattle.evaluation.specs.declared.check.Reached.TheVariants.{Late, At as WayAt}
 use Rattle.evaluation.specs.declared.check.Left.{Left}
 use Rattle.evaluation.specs.declared.check.Left.TheVariants.{Missed, At as LeftAt}
-use Rattle.break_clock.specs.Schedule.{schedule}
+use Rattle.break_schedule.specs.break_clock.Schedule.{schedule}
 use Rattle.evaluation.specs.Eval.{is_feasible, limited}
 
 -- ---- whether the check is needed

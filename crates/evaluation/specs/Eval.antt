@@ -1,23 +1,23 @@
 -- What a route is worth (evaluation/mod.rs; "One stop, one route"). Assumes nothing.
 use Rattle.std.specs.Prelude.{ℕ, List, Bool, true, false, cond, Float}
-use Rattle.floats.specs.Binary64.{◌⊕◌, 0f, +∞}
-use Rattle.laws.specs.Walks.{walk}
-use Rattle.models.specs.declared.vehicle.Rest.{Rest}
-use Rattle.models.specs.declared.vehicle.Rest.TheVariants.{None as NoRest, Break}
-use Rattle.models.specs.declared.limits.RouteLimits.{RouteLimits}
-use Rattle.models.specs.Customer.{Customers, customer_at}
-use Rattle.models.specs.Vehicle.{vehicle_break_new}
-use Rattle.models.specs.RouteLimits.{allow}
-use Rattle.models.specs.Problem.{DistanceMatrix}
-use Rattle.distance.specs.Matrix.{get, travel_time}
-use Rattle.labels.specs.declared.Taken.TheVariants.{No as NotTaken}
-use Rattle.labels.specs.declared.Served.{Served}
-use Rattle.labels.specs.declared.Served.TheVariants.{Dead, Live}
-use Rattle.labels.specs.Labels.{START, serve_at}
-use Rattle.break_clock.specs.declared.route_eval.Eval.{Eval}
-use Rattle.break_clock.specs.declared.route_eval.Eval.TheVariants.{Infeasible, Feasible}
-use Rattle.break_clock.specs.RouteEval.{priced_distance}
-use Rattle.break_clock.specs.Schedule.{ended, schedule}
+use Rattle.break_schedule.specs.floats.Binary64.{◌⊕◌, 0f, +∞}
+use Rattle.break_schedule.specs.laws.Walks.{walk}
+use Rattle.break_schedule.specs.models.declared.vehicle.Rest.{Rest}
+use Rattle.break_schedule.specs.models.declared.vehicle.Rest.TheVariants.{None as NoRest, Break}
+use Rattle.break_schedule.specs.models.declared.limits.RouteLimits.{RouteLimits}
+use Rattle.break_schedule.specs.models.Customer.{Customers, customer_at}
+use Rattle.break_schedule.specs.models.Vehicle.{vehicle_break_new}
+use Rattle.break_schedule.specs.models.RouteLimits.{allow}
+use Rattle.break_schedule.specs.models.Problem.{DistanceMatrix}
+use Rattle.break_schedule.specs.distance.Matrix.{get, travel_time}
+use Rattle.break_schedule.specs.labels.declared.Taken.TheVariants.{No as NotTaken}
+use Rattle.break_schedule.specs.labels.declared.Served.{Served}
+use Rattle.break_schedule.specs.labels.declared.Served.TheVariants.{Dead, Live}
+use Rattle.break_schedule.specs.labels.Labels.{START, serve_at}
+use Rattle.break_schedule.specs.break_clock.declared.route_eval.Eval.{Eval}
+use Rattle.break_schedule.specs.break_clock.declared.route_eval.Eval.TheVariants.{Infeasible, Feasible}
+use Rattle.break_schedule.specs.break_clock.RouteEval.{priced_distance}
+use Rattle.break_schedule.specs.break_clock.Schedule.{ended, schedule}
 use Rattle.evaluation.specs.declared.eval.Walk.{Walk}
 use Rattle.evaluation.specs.declared.eval.Walked.{Walked}
 use Rattle.evaluation.specs.declared.eval.Walked.TheVariants.{Late, At as WalkAt}

@@ -3,3 +3,10 @@
 pub mod Eval
 -- evaluation/mod.rs: whether a route passes
 pub mod Check
+-- crates below, passed on to those above
+pub use Rattle.break_schedule.specs.laws as laws
+pub use Rattle.break_schedule.specs.floats as floats
+pub use Rattle.break_schedule.specs.models as models
+pub use Rattle.break_schedule.specs.distance as distance
+pub use Rattle.break_schedule.specs.labels as labels
+pub use Rattle.break_schedule.specs.break_clock as break_clock

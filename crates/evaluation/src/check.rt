@@ -1,17 +1,21 @@
 // The route check: whether a route reaches every stop in time and keeps the limits. It is asked of every candidate place,
 // so its walk keeps time and distance only, and ends at the first stop that is missed.
 ghost use Rattle.std.specs.Prelude.{◌≡◌, ◌<◌};
-ghost use Rattle.models.specs.Customer.{customers};
-ghost use Rattle.models.specs.Problem.{matrix, Square, Fit, Stops};
+ghost use Rattle.break_schedule.specs.models.Customer.{customers};
+ghost use Rattle.break_schedule.specs.models.Problem.{matrix, Square, Fit, Stops};
 ghost use Rattle.evaluation.specs.Check.{set_out, departure, reach, reach_all, home_allowed, route_feasible};
 
 use crate::eval::{is_feasible, limited};
 use break_schedule::schedule;
-use distance::{get, travel_time};
-use models::customer::{Customer, Penalty, Window};
-use models::limits::RouteLimits;
-use models::vehicle::{Rest, VehicleBreak};
-use place_record::customer_at;
+use break_schedule::get;
+use break_schedule::travel_time;
+use break_schedule::Customer;
+use break_schedule::Penalty;
+use break_schedule::Window;
+use break_schedule::RouteLimits;
+use break_schedule::Rest;
+use break_schedule::VehicleBreak;
+use break_schedule::customer_at;
 
 // A route as far as it has been driven: the time its last stop is left, the distance so far, and that stop.
 #[derive(Clone, Copy)]

@@ -3,9 +3,9 @@
 ghost use Rattle.std.specs.Prelude.{◌≡◌};
 ghost use Rattle.evaluation.specs.Eval.{set_out, is_feasible, limited};
 
-use break_clock::route_eval::Eval;
-use labels::Label;
-use models::limits::RouteLimits;
+use break_schedule::Eval;
+use break_schedule::Label;
+use break_schedule::RouteLimits;
 
 // Whether there is an evaluation: `is_some`.
 pub fn is_feasible(e: Eval) -> bool

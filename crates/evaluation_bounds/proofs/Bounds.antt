@@ -11,60 +11,60 @@ use lib.ListN.{length, get_or}
 use lib.Dec.{lit≤, eqb}
 use lib.Ieee.{Float, nan, lt, le, is_nan}
 use borrow.Author.Tests.{eq-eqb, ne_eqb}
-use Rattle.floats.specs.Binary64.{◌⊕◌, ◌⊗◌, 0f, +∞, max}
-use Rattle.floats.specs.Order.{le_of_lt_true}
-use Rattle.floats.specs.Upto.{Upto, upto_add, upto_sub, upto_mul, upto_more, upto_as, upto_zero, upto_max, upto_not_nan}
-use Rattle.floats.specs.Difference.{upto_late}
-use Rattle.floats.specs.Whole.{nat_upto}
-use Rattle.floats.specs.Inputs.{Amount}
-use Rattle.laws.specs.All.{All, all_of}
-use Rattle.laws.specs.Loops.{loop, cond_rule, loop_rule, foldl_rule}
-use Rattle.laws.specs.Walks.{walk_count_rule}
-use Rattle.laws.specs.Matrix.{in_matrix}
-use Rattle.models.specs.declared.customer.TimeWindow.{TimeWindow}
-use Rattle.models.specs.declared.customer.Window.{Window}
-use Rattle.models.specs.declared.customer.Window.TheVariants.{None as NoWindow, Is as WindowIs}
-use Rattle.models.specs.declared.customer.Penalty.{Penalty}
-use Rattle.models.specs.declared.customer.Penalty.TheVariants.{None as NoPenalty, Of as PenaltyOf}
-use Rattle.models.specs.declared.customer.Customer.{Customer}
-use Rattle.models.specs.declared.vehicle.Rest.{Rest}
-use Rattle.models.specs.declared.vehicle.Rest.TheVariants.{None as NoRest, Break}
-use Rattle.models.specs.declared.vehicle.VehicleBreak.{VehicleBreak}
-use Rattle.models.specs.declared.limits.RouteLimits.{RouteLimits}
-use Rattle.models.specs.TimeWindow.{waiting_time, is_violated, lateness}
-use Rattle.models.specs.Customer.{Customers, window_at, penalty_at, customer_at, windowed, penalised}
-use Rattle.models.specs.Vehicle.{vehicle_break_new}
-use Rattle.models.specs.RouteLimits.{allow}
-use Rattle.models.specs.Problem.{DistanceMatrix, Problem, Fit, Stops}
-use Rattle.models.specs.Valid.{valid}
-use Rattle.models.proofs.ValidLaws.{Floats, valid_square, valid_service, valid_distances, valid_times, valid_window, valid_penalty}
-use Rattle.distance.specs.Matrix.{get, travel_time, largest}
-use Rattle.break_clock.specs.declared.route_eval.RouteEval.{RouteEval}
-use Rattle.break_clock.specs.declared.route_eval.Eval.{Eval}
-use Rattle.break_clock.specs.declared.route_eval.Eval.TheVariants.{Infeasible, Feasible}
-use Rattle.evaluation.specs.declared.eval.Walk.{Walk}
-use Rattle.evaluation.specs.declared.eval.Walked.{Walked}
-use Rattle.evaluation.specs.declared.eval.Walked.TheVariants.{Late, At as WalkAt}
-use Rattle.labels.specs.declared.Taken.{Taken}
-use Rattle.labels.specs.declared.Taken.TheVariants.{No as NotTaken, At as TakenAt}
-use Rattle.labels.specs.declared.Label.{Label}
-use Rattle.labels.specs.declared.Served.{Served}
-use Rattle.labels.specs.declared.Served.TheVariants.{Dead, Live}
-use Rattle.break_clock.specs.declared.schedule.BreakClock.{BreakClock}
-use Rattle.break_clock.specs.declared.schedule.Pushed.{Pushed}
-use Rattle.break_clock.specs.declared.schedule.Pushed.TheVariants.{Stuck, On}
-use Rattle.break_clock.specs.declared.schedule.Riding.{Riding}
-use Rattle.break_clock.specs.declared.schedule.Ridden.{Ridden}
-use Rattle.break_clock.specs.declared.schedule.Ridden.TheVariants.{Stuck as RideStuck, At as RideAt}
-use Rattle.labels.specs.Labels.{START, in_time, too_late, at_window, serve_at, pausing, serve, served_from, sooner, earlier, lives}
-use Rattle.break_clock.specs.Schedule.{clocked, push, ended, finish_after, finish_before, finish, set_out as ride-out, pushed, ride, onward as ride-onward, ride_all, ride_home, homeward as ride-homeward, schedule}
-use Rattle.break_clock.specs.RouteEval.{priced_distance}
-use Rattle.evaluation.specs.Eval.{limited, set_out, walked, drive, onward, drive_all, home, homeward, eval_with, route_eval, worth, effective_cost}
-use Rattle.evaluation.specs.Check.{has_soft_windows}
+use Rattle.lateness_bound.specs.floats.Binary64.{◌⊕◌, ◌⊗◌, 0f, +∞, max}
+use Rattle.lateness_bound.specs.floats.Order.{le_of_lt_true}
+use Rattle.lateness_bound.specs.floats.Upto.{Upto, upto_add, upto_sub, upto_mul, upto_more, upto_as, upto_zero, upto_max, upto_not_nan}
+use Rattle.lateness_bound.specs.floats.Difference.{upto_late}
+use Rattle.lateness_bound.specs.floats.Whole.{nat_upto}
+use Rattle.lateness_bound.specs.floats.Inputs.{Amount}
+use Rattle.lateness_bound.specs.laws.All.{All, all_of}
+use Rattle.lateness_bound.specs.laws.Loops.{loop, cond_rule, loop_rule, foldl_rule}
+use Rattle.lateness_bound.specs.laws.Walks.{walk_count_rule}
+use Rattle.lateness_bound.specs.laws.Matrix.{in_matrix}
+use Rattle.lateness_bound.specs.models.declared.customer.TimeWindow.{TimeWindow}
+use Rattle.lateness_bound.specs.models.declared.customer.Window.{Window}
+use Rattle.lateness_bound.specs.models.declared.customer.Window.TheVariants.{None as NoWindow, Is as WindowIs}
+use Rattle.lateness_bound.specs.models.declared.customer.Penalty.{Penalty}
+use Rattle.lateness_bound.specs.models.declared.customer.Penalty.TheVariants.{None as NoPenalty, Of as PenaltyOf}
+use Rattle.lateness_bound.specs.models.declared.customer.Customer.{Customer}
+use Rattle.lateness_bound.specs.models.declared.vehicle.Rest.{Rest}
+use Rattle.lateness_bound.specs.models.declared.vehicle.Rest.TheVariants.{None as NoRest, Break}
+use Rattle.lateness_bound.specs.models.declared.vehicle.VehicleBreak.{VehicleBreak}
+use Rattle.lateness_bound.specs.models.declared.limits.RouteLimits.{RouteLimits}
+use Rattle.lateness_bound.specs.models.TimeWindow.{waiting_time, is_violated, lateness}
+use Rattle.lateness_bound.specs.models.Customer.{Customers, window_at, penalty_at, customer_at, windowed, penalised}
+use Rattle.lateness_bound.specs.models.Vehicle.{vehicle_break_new}
+use Rattle.lateness_bound.specs.models.RouteLimits.{allow}
+use Rattle.lateness_bound.specs.models.Problem.{DistanceMatrix, Problem, Fit, Stops}
+use Rattle.lateness_bound.specs.models.Valid.{valid}
+use Rattle.lateness_bound.proofs.of_models.ValidLaws.{Floats, valid_square, valid_service, valid_distances, valid_times, valid_window, valid_penalty}
+use Rattle.lateness_bound.specs.distance.Matrix.{get, travel_time, largest}
+use Rattle.lateness_bound.specs.break_clock.declared.route_eval.RouteEval.{RouteEval}
+use Rattle.lateness_bound.specs.break_clock.declared.route_eval.Eval.{Eval}
+use Rattle.lateness_bound.specs.break_clock.declared.route_eval.Eval.TheVariants.{Infeasible, Feasible}
+use Rattle.lateness_bound.specs.evaluation.declared.eval.Walk.{Walk}
+use Rattle.lateness_bound.specs.evaluation.declared.eval.Walked.{Walked}
+use Rattle.lateness_bound.specs.evaluation.declared.eval.Walked.TheVariants.{Late, At as WalkAt}
+use Rattle.lateness_bound.specs.labels.declared.Taken.{Taken}
+use Rattle.lateness_bound.specs.labels.declared.Taken.TheVariants.{No as NotTaken, At as TakenAt}
+use Rattle.lateness_bound.specs.labels.declared.Label.{Label}
+use Rattle.lateness_bound.specs.labels.declared.Served.{Served}
+use Rattle.lateness_bound.specs.labels.declared.Served.TheVariants.{Dead, Live}
+use Rattle.lateness_bound.specs.break_clock.declared.schedule.BreakClock.{BreakClock}
+use Rattle.lateness_bound.specs.break_clock.declared.schedule.Pushed.{Pushed}
+use Rattle.lateness_bound.specs.break_clock.declared.schedule.Pushed.TheVariants.{Stuck, On}
+use Rattle.lateness_bound.specs.break_clock.declared.schedule.Riding.{Riding}
+use Rattle.lateness_bound.specs.break_clock.declared.schedule.Ridden.{Ridden}
+use Rattle.lateness_bound.specs.break_clock.declared.schedule.Ridden.TheVariants.{Stuck as RideStuck, At as RideAt}
+use Rattle.lateness_bound.specs.labels.Labels.{START, in_time, too_late, at_window, serve_at, pausing, serve, served_from, sooner, earlier, lives}
+use Rattle.lateness_bound.specs.break_clock.Schedule.{clocked, push, ended, finish_after, finish_before, finish, set_out as ride-out, pushed, ride, onward as ride-onward, ride_all, ride_home, homeward as ride-homeward, schedule}
+use Rattle.lateness_bound.specs.break_clock.RouteEval.{priced_distance}
+use Rattle.lateness_bound.specs.evaluation.Eval.{limited, set_out, walked, drive, onward, drive_all, home, homeward, eval_with, route_eval, worth, effective_cost}
+use Rattle.lateness_bound.specs.evaluation.Check.{has_soft_windows}
 use Rattle.lateness_bound.specs.Bound.{with_window, with_penalty, later_window, dearer_penalty, latest_window, dearest_penalty, slowest, lateness_bound}
-use Rattle.break_clock.proofs.StopLaws.{stops_all}
-use Rattle.break_clock.proofs.ScheduleLaws.{ridden_cases}
-use Rattle.route_worth.proofs.EvalLaws.{walked_cases}
+use Rattle.lateness_bound.proofs.of_break_clock.StopLaws.{stops_all}
+use Rattle.lateness_bound.proofs.of_break_clock.ScheduleLaws.{ridden_cases}
+use Rattle.lateness_bound.proofs.of_route_worth.EvalLaws.{walked_cases}
 
 -- ---- amounts
 

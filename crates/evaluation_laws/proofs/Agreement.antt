@@ -7,46 +7,46 @@ use mathlib.Core.Bool.{Bool, true, false, true≢false, false≢true, cond, not,
 use mathlib.Core.List.{List, [], ◌∷◌}
 use lib.ListN.{get_or}
 use lib.Ieee.{Float, nan}
-use Rattle.floats.specs.Binary64.{◌⊕◌}
-use Rattle.laws.specs.All.{All, all_default}
-use Rattle.laws.specs.Searches.{and_first, and_second, or_neither, any_none}
-use Rattle.laws.specs.Walks.{walk}
-use Rattle.models.specs.declared.customer.TimeWindow.{TimeWindow}
-use Rattle.models.specs.declared.customer.Window.{Window}
-use Rattle.models.specs.declared.customer.Window.TheVariants.{None as NoWindow, Is as WindowIs}
-use Rattle.models.specs.declared.customer.Penalty.{Penalty}
-use Rattle.models.specs.declared.customer.Penalty.TheVariants.{None as NoPenalty, Of as PenaltyOf}
-use Rattle.models.specs.declared.customer.Customer.{Customer}
-use Rattle.models.specs.declared.vehicle.Limit.{Limit}
-use Rattle.models.specs.declared.vehicle.Limit.TheVariants.{None as NoLimit, At as LimitAt}
-use Rattle.models.specs.declared.vehicle.Rest.{Rest}
-use Rattle.models.specs.declared.vehicle.Rest.TheVariants.{None as NoRest, Break}
-use Rattle.models.specs.declared.limits.RouteLimits.{RouteLimits}
-use Rattle.models.specs.TimeWindow.{waiting_time, is_violated, lateness}
-use Rattle.models.specs.Customer.{Customers, customer_at, windowed}
-use Rattle.models.specs.Vehicle.{vehicle_break_new}
-use Rattle.models.specs.RouteLimits.{no_limit, no_rest, is_unlimited, within, allow}
-use Rattle.models.specs.Problem.{DistanceMatrix}
-use Rattle.distance.specs.Matrix.{get, travel_time}
-use Rattle.evaluation.specs.declared.check.Way.{Way}
-use Rattle.evaluation.specs.declared.check.Reached.{Reached}
-use Rattle.evaluation.specs.declared.check.Reached.TheVariants.{Late as WayLate, At as WayAt}
-use Rattle.evaluation.specs.declared.check.Left.{Left}
-use Rattle.evaluation.specs.declared.check.Left.TheVariants.{Missed, At as LeftAt}
-use Rattle.break_clock.specs.declared.route_eval.Eval.{Eval}
-use Rattle.break_clock.specs.declared.route_eval.Eval.TheVariants.{Infeasible}
-use Rattle.evaluation.specs.declared.eval.Walk.{Walk}
-use Rattle.evaluation.specs.declared.eval.Walked.{Walked}
-use Rattle.evaluation.specs.declared.eval.Walked.TheVariants.{Late as WalkLate, At as WalkAt}
-use Rattle.labels.specs.declared.Taken.{Taken}
-use Rattle.labels.specs.declared.Taken.TheVariants.{No as NotTaken}
-use Rattle.labels.specs.declared.Label.{Label}
-use Rattle.labels.specs.declared.Served.{Served}
-use Rattle.labels.specs.declared.Served.TheVariants.{Dead, Live}
-use Rattle.labels.specs.Labels.{too_late, in_time, at_window, serve_at}
-use Rattle.break_clock.specs.Schedule.{ended, schedule}
-use Rattle.evaluation.specs.Eval.{is_feasible, limited, walked, drive, onward, drive_all, home, homeward, eval_with, route_eval, set_out}
-use Rattle.evaluation.specs.Check.{has_time_windows, route_checks_needed, unless_hard, departure_in, departure, reached, reach, reach_all, home_allowed, feasible_with, route_feasible, onward as way-onward, homeward as way-homeward, set_out as way_out}
+use Rattle.trial_route.specs.floats.Binary64.{◌⊕◌}
+use Rattle.trial_route.specs.laws.All.{All, all_default}
+use Rattle.trial_route.specs.laws.Searches.{and_first, and_second, or_neither, any_none}
+use Rattle.trial_route.specs.laws.Walks.{walk}
+use Rattle.trial_route.specs.models.declared.customer.TimeWindow.{TimeWindow}
+use Rattle.trial_route.specs.models.declared.customer.Window.{Window}
+use Rattle.trial_route.specs.models.declared.customer.Window.TheVariants.{None as NoWindow, Is as WindowIs}
+use Rattle.trial_route.specs.models.declared.customer.Penalty.{Penalty}
+use Rattle.trial_route.specs.models.declared.customer.Penalty.TheVariants.{None as NoPenalty, Of as PenaltyOf}
+use Rattle.trial_route.specs.models.declared.customer.Customer.{Customer}
+use Rattle.trial_route.specs.models.declared.vehicle.Limit.{Limit}
+use Rattle.trial_route.specs.models.declared.vehicle.Limit.TheVariants.{None as NoLimit, At as LimitAt}
+use Rattle.trial_route.specs.models.declared.vehicle.Rest.{Rest}
+use Rattle.trial_route.specs.models.declared.vehicle.Rest.TheVariants.{None as NoRest, Break}
+use Rattle.trial_route.specs.models.declared.limits.RouteLimits.{RouteLimits}
+use Rattle.trial_route.specs.models.TimeWindow.{waiting_time, is_violated, lateness}
+use Rattle.trial_route.specs.models.Customer.{Customers, customer_at, windowed}
+use Rattle.trial_route.specs.models.Vehicle.{vehicle_break_new}
+use Rattle.trial_route.specs.models.RouteLimits.{no_limit, no_rest, is_unlimited, within, allow}
+use Rattle.trial_route.specs.models.Problem.{DistanceMatrix}
+use Rattle.trial_route.specs.distance.Matrix.{get, travel_time}
+use Rattle.trial_route.specs.evaluation.declared.check.Way.{Way}
+use Rattle.trial_route.specs.evaluation.declared.check.Reached.{Reached}
+use Rattle.trial_route.specs.evaluation.declared.check.Reached.TheVariants.{Late as WayLate, At as WayAt}
+use Rattle.trial_route.specs.evaluation.declared.check.Left.{Left}
+use Rattle.trial_route.specs.evaluation.declared.check.Left.TheVariants.{Missed, At as LeftAt}
+use Rattle.trial_route.specs.break_clock.declared.route_eval.Eval.{Eval}
+use Rattle.trial_route.specs.break_clock.declared.route_eval.Eval.TheVariants.{Infeasible}
+use Rattle.trial_route.specs.evaluation.declared.eval.Walk.{Walk}
+use Rattle.trial_route.specs.evaluation.declared.eval.Walked.{Walked}
+use Rattle.trial_route.specs.evaluation.declared.eval.Walked.TheVariants.{Late as WalkLate, At as WalkAt}
+use Rattle.trial_route.specs.labels.declared.Taken.{Taken}
+use Rattle.trial_route.specs.labels.declared.Taken.TheVariants.{No as NotTaken}
+use Rattle.trial_route.specs.labels.declared.Label.{Label}
+use Rattle.trial_route.specs.labels.declared.Served.{Served}
+use Rattle.trial_route.specs.labels.declared.Served.TheVariants.{Dead, Live}
+use Rattle.trial_route.specs.labels.Labels.{too_late, in_time, at_window, serve_at}
+use Rattle.trial_route.specs.break_clock.Schedule.{ended, schedule}
+use Rattle.trial_route.specs.evaluation.Eval.{is_feasible, limited, walked, drive, onward, drive_all, home, homeward, eval_with, route_eval, set_out}
+use Rattle.trial_route.specs.evaluation.Check.{has_time_windows, route_checks_needed, unless_hard, departure_in, departure, reached, reach, reach_all, home_allowed, feasible_with, route_feasible, onward as way-onward, homeward as way-homeward, set_out as way_out}
 
 -- ---- lateness forgotten
 

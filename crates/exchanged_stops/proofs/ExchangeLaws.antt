@@ -2,7 +2,7 @@
 use Prim.Native.Nat.{ℕ, ◌+◌}
 use mathlib.Core.Path.{◌≡◌}
 use mathlib.Core.List.{List}
-use Rattle.laws.specs.Exchanges.{swap}
+use Rattle.plan.specs.laws.Exchanges.{swap}
 use Rattle.plan.specs.Plan.{Lent, HasStop, split, offset, exchange_stops}
 use Rattle.plan.specs.Slices.{stop_within, stop_route}
 use Rattle.plan.specs.Exchanges.{exchange_stops_slices}

@@ -4,7 +4,14 @@
 ghost use Rattle.std.specs.Prelude.{◌≡◌};
 ghost use Rattle.plan.specs.Plan.{Lent, HasStop, split, exchange_stops};
 
-use plan::offset;
+// Of the crates below, passed on to those above.
+pub use plan::clear;
+pub use plan::copy_part;
+pub use plan::cut;
+pub use plan::swap_parts;
+pub use plan::offset;
+
+
 
 // The stop at i of route a and the stop at j of route b, another one, are exchanged.
 pub fn exchange_stops(stops: &mut [u16], lengths: &[u16], a: usize, i: usize, b: usize, j: usize)
@@ -14,5 +21,5 @@ pub fn exchange_stops(stops: &mut [u16], lengths: &[u16], a: usize, i: usize, b:
 {
     let p = offset(lengths, a) + i;
     let q = offset(lengths, b) + j;
-    cell_exchange::swap(stops, p, q);
+    plan::swap(stops, p, q);
 }

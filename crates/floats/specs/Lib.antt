@@ -35,3 +35,5 @@ pub mod Bits
 pub mod Literals
 -- amounts: floats with the sign clear up to 1e12, their sums and quotients
 pub mod Inputs
+-- crates below, passed on to those above
+pub use Rattle.laws.specs as laws

@@ -9,27 +9,27 @@ use mathlib.Core.Option.{Option, none, some}
 use borrow.Author.Tests.{eq-eqb, ne_eqb}
 use lib.ListN.{length, get_or, set, length-append, length-reverse}
 use lib.Dec.{eqb}
-use Rattle.laws.specs.All.{All, all_of}
-use Rattle.laws.specs.Counts.{count, one_if, same_length}
-use Rattle.models.specs.Problem.{Problem, Stops}
-use Rattle.plan.specs.Plan.{Plan, Holds, Lent, HasPosition, split, flat, total, route, occurs, put_in}
-use Rattle.plan.specs.Slices.{total_lengths, lengths_split}
-use Rattle.route_cost.specs.declared.Insertion.{Insertion}
-use Rattle.route_cost.specs.declared.Best.{Best}
-use Rattle.route_cost.specs.declared.Best.TheVariants.{Nothing, At}
-use Rattle.local_search.specs.declared.rounds.Counts.{Counts}
-use Rattle.local_search.specs.Options.{Each, each_found}
-use Rattle.route_cost.specs.Route.{chosen}
-use Rattle.local_search.specs.Planned.{Planned, planned_stops}
-use Rattle.insertion.specs.Cheapest.{cheapest}
-use Rattle.insertion.specs.Inserted.{Inserts, cheapest_found}
-use Rattle.ejection.specs.declared.Ejection.{Ejection}
-use Rattle.ejection.specs.declared.Best.{Best as Ejected}
-use Rattle.ejection.specs.declared.Best.TheVariants.{Nothing as NoEjection, At as EjectionAt}
-use Rattle.ejection.specs.Eject.{eject, ejected, make_room, gone, chosen as ejection-chosen}
-use Rattle.ejection.specs.Ejected.{Inside, Ejects, eject_found}
-use Rattle.ejection_made.specs.Made.{stack, Made}
-use Rattle.perturbation.specs.Perturb.{Drawn, perturb}
+use Rattle.cheapest_insertion.specs.laws.All.{All, all_of}
+use Rattle.cheapest_insertion.specs.laws.Counts.{count, one_if, same_length}
+use Rattle.cheapest_insertion.specs.models.Problem.{Problem, Stops}
+use Rattle.cheapest_insertion.specs.plan.Plan.{Plan, Holds, Lent, HasPosition, split, flat, total, route, occurs, put_in}
+use Rattle.cheapest_insertion.specs.plan.Slices.{total_lengths, lengths_split}
+use Rattle.cheapest_insertion.specs.route_cost.declared.Insertion.{Insertion}
+use Rattle.cheapest_insertion.specs.route_cost.declared.Best.{Best}
+use Rattle.cheapest_insertion.specs.route_cost.declared.Best.TheVariants.{Nothing, At}
+use Rattle.cheapest_insertion.specs.local_search.declared.rounds.Counts.{Counts}
+use Rattle.cheapest_insertion.specs.local_search.Options.{Each, each_found}
+use Rattle.cheapest_insertion.specs.route_cost.Route.{chosen}
+use Rattle.cheapest_insertion.specs.local_search.Planned.{Planned, planned_stops}
+use Rattle.cheapest_insertion.specs.insertion.Cheapest.{cheapest}
+use Rattle.cheapest_insertion.specs.insertion.Inserted.{Inserts, cheapest_found}
+use Rattle.made_room.specs.ejection.declared.Ejection.{Ejection}
+use Rattle.made_room.specs.ejection.declared.Best.{Best as Ejected}
+use Rattle.made_room.specs.ejection.declared.Best.TheVariants.{Nothing as NoEjection, At as EjectionAt}
+use Rattle.made_room.specs.ejection.Eject.{eject, ejected, make_room, gone, chosen as ejection-chosen}
+use Rattle.made_room.specs.ejection.Ejected.{Inside, Ejects, eject_found}
+use Rattle.made_room.specs.ejection_made.Made.{stack, Made}
+use Rattle.made_room.specs.perturbation.Perturb.{Drawn, perturb}
 use Rattle.forced_insertion.specs.declared.Turn.TheVariants.{Stuck, More}
 use Rattle.ejection_pool.specs.Pool.{after_eject}
 use Rattle.ejection_pool.specs.Placing.{Placing, eject_keeps}

@@ -1,7 +1,7 @@
 -- How a turn of the pool ends, as the code says it. Assumes nothing.
 use Rattle.std.specs.Prelude.{ℕ, List}
-use Rattle.plan.specs.Plan.{Plan}
-use Rattle.ejection_made.specs.Made.{stack}
+use Rattle.cheapest_insertion.specs.plan.Plan.{Plan}
+use Rattle.made_room.specs.ejection_made.Made.{stack}
 use Rattle.ejection_pool.specs.Pool.{Turn, stop, more, failed}
 use Rattle.forced_insertion.specs.declared.Turn.{Turn as Ended}
 use Rattle.forced_insertion.specs.declared.Turn.TheVariants.{Stuck, More}

@@ -3,26 +3,30 @@
 #![tactic(auto)]
 
 ghost use Rattle.std.specs.Prelude.{◌≡◌, ◌+◌, ◌<◌, ◌≤◌, length};
-ghost use Rattle.models.specs.RouteLimits.{limits_of};
-ghost use Rattle.models.specs.Problem.{problem, Admitted};
-ghost use Rattle.evaluation.specs.Check.{route_checks_needed};
-ghost use Rattle.plan.specs.Plan.{Holds, Lent, split, total};
-ghost use Rattle.local_search.specs.Planned.{Planned};
-ghost use Rattle.insertion.specs.Cheapest.{cheapest};
-ghost use Rattle.ejection.specs.Eject.{eject};
-ghost use Rattle.ejection_made.specs.Made.{stack};
+ghost use Rattle.cheapest_insertion.specs.models.RouteLimits.{limits_of};
+ghost use Rattle.cheapest_insertion.specs.models.Problem.{problem, Admitted};
+ghost use Rattle.cheapest_insertion.specs.evaluation.Check.{route_checks_needed};
+ghost use Rattle.cheapest_insertion.specs.plan.Plan.{Holds, Lent, split, total};
+ghost use Rattle.cheapest_insertion.specs.local_search.Planned.{Planned};
+ghost use Rattle.cheapest_insertion.specs.insertion.Cheapest.{cheapest};
+ghost use Rattle.made_room.specs.ejection.Eject.{eject};
+ghost use Rattle.made_room.specs.ejection_made.Made.{stack};
 ghost use Rattle.ejection_pool.specs.Pool.{after_eject};
 ghost use Rattle.ejection_pool.specs.Running.{Forcing, is_there, put_best, one_more};
 ghost use Rattle.forced_insertion.specs.Turned.{as_turn};
 
 use cheapest_insertion::cheapest;
-use ejection::Best as Ejected;
-use ejection_search::eject;
-use local_search::rounds::Counts;
+use made_room::EjectionBest as Ejected;
+use made_room::eject;
+
 use made_room::make_room;
-use models::vehicle::Vehicle;
-use random_moves::perturb;
-use route_cost::Best;
+
+use made_room::perturb;
+use cheapest_insertion::RouteCostBest as Best;
+
+// Of the crates below, passed on to those above.
+pub use cheapest_insertion::Vehicle;
+pub use cheapest_insertion::Counts;
 
 // How a turn ends: no ejection works; or the number in the pool. With the counts of the call so far.
 #[derive(Clone, Copy)]
@@ -64,7 +68,7 @@ pub fn place(
     let Best::At(x) = best else {
         return false;
     };
-    plan::put_in(lengths, stops, x.route, x.pos, c);
+    cheapest_insertion::put_in(lengths, stops, x.route, x.pos, c);
     true
 }
 

@@ -10,9 +10,9 @@ use lib.Ieee.{Float}
 use mir.Syntax.{w64}
 use mir.Val.{Fits}
 use borrow.Author.Rules.{rules}
-use Rattle.laws.specs.Loops.{loop, loop_none, loop_more, loop_end}
-use Rattle.models.specs.Problem.{Problem, Fit, Stops, depot}
-use Rattle.route_load.specs.Feasible.{constrained}
+use Rattle.route_times.specs.laws.Loops.{loop, loop_none, loop_more, loop_end}
+use Rattle.route_times.specs.models.Problem.{Problem, Fit, Stops, depot}
+use Rattle.route_times.specs.route_load.Feasible.{constrained}
 
 -- what the positions before pos leave of the best so far
 pub record Along (p : Problem) (c : ℕ) (r : List ℕ) (cells : List Float) (needed : Bool) {S : Type 0} (f : ℕ → S → S) (first found : S) (pos : ℕ) : Type 0 where

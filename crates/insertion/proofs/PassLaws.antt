@@ -6,11 +6,11 @@ use mathlib.Core.List.{List}
 use lib.ListN.{length, take, drop}
 use lib.Seq.{take-take}
 use lib.Ieee.{Float}
-use Rattle.laws.specs.Edits.{insert_at}
-use Rattle.models.specs.Customer.{Customers}
-use Rattle.models.specs.Problem.{DistanceMatrix, Problem, Stops, depot}
-use Rattle.route_load.specs.Feasible.{constrained, checked}
-use Rattle.quick_test.specs.Quick.{may_fit, Times}
+use Rattle.route_times.specs.laws.Edits.{insert_at}
+use Rattle.route_times.specs.models.Customer.{Customers}
+use Rattle.route_times.specs.models.Problem.{DistanceMatrix, Problem, Stops, depot}
+use Rattle.route_times.specs.route_load.Feasible.{constrained, checked}
+use Rattle.route_times.specs.quick_test.Quick.{may_fit, Times}
 use Rattle.insertion.specs.Pass.{may_pass}
 
 -- the first cells of a part of the work cells are the first of them all

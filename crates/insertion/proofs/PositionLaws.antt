@@ -6,13 +6,13 @@ use mathlib.Core.List.{List}
 use mathlib.Core.Option.{Option, some}
 use lib.Ieee.{Float, le}
 use borrow.Author.Rules.{rules}
-use Rattle.models.specs.Problem.{Problem, depot}
-use Rattle.route_cost.specs.declared.Insertion.{Insertion}
-use Rattle.route_cost.specs.declared.Best.{Best}
-use Rattle.route_cost.specs.declared.Best.TheVariants.{At}
-use Rattle.route_cost.specs.Route.{insertion_cost, chosen}
-use Rattle.local_search.proofs.ReadLaws.{insertion_any}
-use Rattle.quick_test.specs.Quick.{Times}
+use Rattle.route_times.specs.models.Problem.{Problem, depot}
+use Rattle.route_times.specs.route_cost.declared.Insertion.{Insertion}
+use Rattle.route_times.specs.route_cost.declared.Best.{Best}
+use Rattle.route_times.specs.route_cost.declared.Best.TheVariants.{At}
+use Rattle.route_times.specs.route_cost.Route.{insertion_cost, chosen}
+use Rattle.route_times.proofs.of_local_search.ReadLaws.{insertion_any}
+use Rattle.route_times.specs.quick_test.Quick.{Times}
 use Rattle.insertion.specs.Cheapest.{cheaper}
 use Rattle.insertion.specs.Pass.{may_pass, pass_position}
 

@@ -2,14 +2,14 @@
 use Rattle.std.specs.Prelude.{ℕ, suc, List, Bool, true, cond, not, ◌&&◌, ◌||◌, length, Float}
 use Rattle.std.proofs.Math.Option.{Option, none, some}
 use Rattle.std.specs.Float.Ieee.{le}
-use Rattle.laws.specs.Edits.{insert_at}
-use Rattle.laws.specs.Loops.{loop}
-use Rattle.models.specs.Problem.{Problem, depot}
-use Rattle.plan.specs.Plan.{Plan, route}
-use Rattle.route_cost.specs.declared.Insertion.{Insertion}
-use Rattle.route_cost.specs.Route.{insertion_cost}
-use Rattle.route_load.specs.Feasible.{constrained, has_room, feasible}
-use Rattle.quick_test.specs.Quick.{may_fit, Times, times}
+use Rattle.route_times.specs.laws.Edits.{insert_at}
+use Rattle.route_times.specs.laws.Loops.{loop}
+use Rattle.route_times.specs.models.Problem.{Problem, depot}
+use Rattle.route_times.specs.plan.Plan.{Plan, route}
+use Rattle.route_times.specs.route_cost.declared.Insertion.{Insertion}
+use Rattle.route_times.specs.route_cost.Route.{insertion_cost}
+use Rattle.route_times.specs.route_load.Feasible.{constrained, has_room, feasible}
+use Rattle.route_times.specs.quick_test.Quick.{may_fit, Times, times}
 
 -- c may go into the route at pos: "the quick test and the full check"
 unfoldable pub may_go_in : Problem → List ℕ → Times → ℕ → ℕ → Bool

@@ -2,16 +2,16 @@
 use Rattle.std.specs.Prelude.{ℕ, zero, suc, ◌≤◌, ◌<◌, ◌≡◌, refl, true, not, ◌||◌, List, [], ◌∷◌, length}
 use Rattle.std.proofs.Math.Option.{Option, none, some}
 use Rattle.std.proofs.Common.{arith}
-use Rattle.laws.specs.Edits.{insert_at}
-use Rattle.laws.specs.Loops.{cond_rule, loop_rule}
-use Rattle.laws.specs.Searches.{and_second}
-use Rattle.models.specs.Problem.{Problem, depot}
-use Rattle.plan.specs.Plan.{Plan, route, non_empty}
-use Rattle.local_search.specs.Options.{Each}
-use Rattle.route_cost.specs.declared.Insertion.{Insertion}
-use Rattle.route_cost.specs.Route.{insertion_cost}
-use Rattle.route_load.specs.Feasible.{constrained, has_room, feasible}
-use Rattle.quick_test.specs.Quick.{may_fit, Times, times}
+use Rattle.route_times.specs.laws.Edits.{insert_at}
+use Rattle.route_times.specs.laws.Loops.{cond_rule, loop_rule}
+use Rattle.route_times.specs.laws.Searches.{and_second}
+use Rattle.route_times.specs.models.Problem.{Problem, depot}
+use Rattle.route_times.specs.plan.Plan.{Plan, route, non_empty}
+use Rattle.route_times.specs.local_search.Options.{Each}
+use Rattle.route_times.specs.route_cost.declared.Insertion.{Insertion}
+use Rattle.route_times.specs.route_cost.Route.{insertion_cost}
+use Rattle.route_times.specs.route_load.Feasible.{constrained, has_room, feasible}
+use Rattle.route_times.specs.quick_test.Quick.{may_fit, Times, times}
 use Rattle.insertion.specs.Cheapest.{may_go_in, cheaper, try_position, try_positions, try_route, cheapest}
 
 -- the full check is a part of it

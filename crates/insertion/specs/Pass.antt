@@ -2,14 +2,14 @@
 use Rattle.std.specs.Prelude.{ℕ, ◌≡◌, refl, Bool, true, false, cond, not, ◌&&◌, ◌||◌, List, [], ℤ, Float}
 use Rattle.std.proofs.Common.{ap}
 use Rattle.std.proofs.Math.Option.{Option, some}
-use Rattle.laws.specs.Edits.{insert_at}
-use Rattle.models.specs.declared.vehicle.Vehicle.{Vehicle}
-use Rattle.models.specs.Problem.{Problem, problem, depot}
-use Rattle.route_cost.specs.declared.Insertion.{Insertion}
-use Rattle.route_cost.specs.Route.{insertion_cost}
-use Rattle.route_load.specs.Feasible.{constrained, has_room, checked}
-use Rattle.route_load.proofs.FeasibleLaws.{trial_within}
-use Rattle.quick_test.specs.Quick.{may_fit, Times}
+use Rattle.route_times.specs.laws.Edits.{insert_at}
+use Rattle.route_times.specs.models.declared.vehicle.Vehicle.{Vehicle}
+use Rattle.route_times.specs.models.Problem.{Problem, problem, depot}
+use Rattle.route_times.specs.route_cost.declared.Insertion.{Insertion}
+use Rattle.route_times.specs.route_cost.Route.{insertion_cost}
+use Rattle.route_times.specs.route_load.Feasible.{constrained, has_room, checked}
+use Rattle.route_times.proofs.of_route_load.FeasibleLaws.{trial_within}
+use Rattle.route_times.specs.quick_test.Quick.{may_fit, Times}
 use Rattle.insertion.specs.Cheapest.{may_go_in, cheaper, try_position}
 
 -- the quick test, where it is needed

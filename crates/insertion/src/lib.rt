@@ -3,21 +3,43 @@
 #![tactic(auto)]
 
 ghost use Rattle.std.specs.Prelude.{◌≡◌, [], ◌<◌, ◌≤◌, length, take, drop};
-ghost use Rattle.models.specs.Customer.{customers};
-ghost use Rattle.models.specs.RouteLimits.{limits_of};
-ghost use Rattle.models.specs.Problem.{matrix, problem, Fit, Stops};
-ghost use Rattle.evaluation.specs.Check.{route_checks_needed};
-ghost use Rattle.route_cost.specs.Route.{chosen};
-ghost use Rattle.quick_test.specs.Quick.{may_fit};
+ghost use Rattle.route_times.specs.models.Customer.{customers};
+ghost use Rattle.route_times.specs.models.RouteLimits.{limits_of};
+ghost use Rattle.route_times.specs.models.Problem.{matrix, problem, Fit, Stops};
+ghost use Rattle.route_times.specs.evaluation.Check.{route_checks_needed};
+ghost use Rattle.route_times.specs.route_cost.Route.{chosen};
+ghost use Rattle.route_times.specs.quick_test.Quick.{may_fit};
 ghost use Rattle.route_times.specs.Prepared.{held};
 ghost use Rattle.insertion.specs.Cheapest.{cheaper};
 ghost use Rattle.insertion.specs.Pass.{may_pass, pass_position};
 
-use insertion_cost::insertion_cost;
-use local_search::feasible::trial_ok;
-use models::vehicle::Vehicle;
-use quick_fit::may_fit;
-use route_cost::{Best, Insertion};
+use route_times::insertion_cost_insertion_cost as insertion_cost;
+use route_times::trial_ok;
+
+use route_times::may_fit;
+use route_times::RouteCostBest as Best;
+use route_times::Insertion;
+
+// Of the crates below, passed on to those above.
+pub use route_times::Vehicle;
+pub use route_times::copy_part;
+pub use route_times::offset;
+pub use route_times::put_in;
+pub use route_times::take_out;
+pub use route_times::Pick;
+pub use route_times::next_pick;
+pub use route_times::RouteCostBest;
+pub use route_times::insertion_cost_insertion_cost;
+pub use route_times::has_room;
+pub use route_times::within_capacity;
+pub use route_times::rounds;
+pub use route_times::checked;
+pub use route_times::constrained;
+pub use route_times::feasible;
+pub use route_times::Counts;
+pub use route_times::LocalSearchNext;
+pub use route_times::Reduction;
+pub use route_times::prepare;
 
 // The quick test by the departures and latest arrivals in the work cells.
 fn quick(

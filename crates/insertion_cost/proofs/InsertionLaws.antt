@@ -9,10 +9,10 @@ use lib.Dec.{eqb, ltb}
 use lib.Ieee.{Float}
 use borrow.Author.Rules.{rules}
 use borrow.Author.Tests.{eqb-false, ltb-true}
-use Rattle.floats.specs.Binary64.{◌⊕◌, ◌⊖◌}
-use Rattle.models.specs.Problem.{matrix, Stops}
-use Rattle.distance.specs.Matrix.{cell}
-use Rattle.route_cost.specs.Route.{prev_stop, next_stop, insertion_cost}
+use Rattle.local_search.specs.floats.Binary64.{◌⊕◌, ◌⊖◌}
+use Rattle.local_search.specs.models.Problem.{matrix, Stops}
+use Rattle.local_search.specs.distance.Matrix.{cell}
+use Rattle.local_search.specs.route_cost.Route.{prev_stop, next_stop, insertion_cost}
 
 module _ (n depot : ℕ) (route : List ℕ) (pos v : ℕ) (h : depot < n) (s : Stops n route) where
   pub prev_there : pos ≤ length route → v ≡ prev_stop depot route pos → v < n

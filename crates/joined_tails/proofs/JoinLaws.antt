@@ -10,16 +10,16 @@ use lib.Seq.{paste, take-paste, length-paste, take-take, drop-drop, length-take-
 use mir.Syntax.{w64}
 use mir.Val.{Fits}
 use borrow.Author.Rules.{rules}
-use Rattle.laws.specs.All.{all_get}
-use Rattle.laws.specs.Lists.{drop_take}
-use Rattle.models.specs.Problem.{Problem, Stops}
-use Rattle.plan.specs.Plan.{Plan, Lent, HasPosition, split, route, total, offset, non_empty, exchange_tails}
-use Rattle.plan.specs.Slices.{length_route, route_split, route_within, total_set, position_route, position_within}
-use Rattle.plan.specs.Exchanges.{length_exchange_tails, occurs_exchange_tails, number_exchange_tails, first_exchange_tails}
-use Rattle.plan.proofs.PlanLaws.{position_upto, position_fits, position_length_fits}
-use Rattle.route_load.specs.Feasible.{load, fits, feasible}
-use Rattle.local_search.specs.Planned.{Planned, planned_stops, planned_as}
-use Rattle.perturbation.specs.Parts.{joined, joined_stands}
+use Rattle.stop_exchange.specs.laws.All.{all_get}
+use Rattle.stop_exchange.specs.laws.Lists.{drop_take}
+use Rattle.stop_exchange.specs.models.Problem.{Problem, Stops}
+use Rattle.stop_exchange.specs.plan.Plan.{Plan, Lent, HasPosition, split, route, total, offset, non_empty, exchange_tails}
+use Rattle.stop_exchange.specs.plan.Slices.{length_route, route_split, route_within, total_set, position_route, position_within}
+use Rattle.stop_exchange.specs.plan.Exchanges.{length_exchange_tails, occurs_exchange_tails, number_exchange_tails, first_exchange_tails}
+use Rattle.stop_exchange.proofs.of_plan.PlanLaws.{position_upto, position_fits, position_length_fits}
+use Rattle.stop_exchange.specs.route_load.Feasible.{load, fits, feasible}
+use Rattle.stop_exchange.specs.local_search.Planned.{Planned, planned_stops, planned_as}
+use Rattle.stop_exchange.specs.perturbation.Parts.{joined, joined_stands}
 
 -- ---- a front and a tail, joined in the work cells
 

@@ -3,19 +3,27 @@
 #![tactic(auto)]
 
 ghost use Rattle.std.specs.Prelude.{◌≡◌, ◌-◌, ◌≤◌, length, take, drop};
-ghost use Rattle.models.specs.RouteLimits.{limits_of};
-ghost use Rattle.models.specs.Problem.{problem, of_demand, Admitted, Demands, Stops};
-ghost use Rattle.evaluation.specs.Check.{route_checks_needed};
-ghost use Rattle.plan.specs.Plan.{Lent, HasPosition, split};
-ghost use Rattle.route_load.specs.Feasible.{load, fits, feasible};
-ghost use Rattle.local_search.specs.Planned.{Planned};
-ghost use Rattle.perturbation.specs.Parts.{joined, joined_stands};
+ghost use Rattle.stop_exchange.specs.models.RouteLimits.{limits_of};
+ghost use Rattle.stop_exchange.specs.models.Problem.{problem, of_demand, Admitted, Demands, Stops};
+ghost use Rattle.stop_exchange.specs.evaluation.Check.{route_checks_needed};
+ghost use Rattle.stop_exchange.specs.plan.Plan.{Lent, HasPosition, split};
+ghost use Rattle.stop_exchange.specs.route_load.Feasible.{load, fits, feasible};
+ghost use Rattle.stop_exchange.specs.local_search.Planned.{Planned};
+ghost use Rattle.stop_exchange.specs.perturbation.Parts.{joined, joined_stands};
 
-use cells::copy_part;
-use local_search::feasible::feasible;
-use models::vehicle::Vehicle;
-use plan::offset;
-use route_load::within_capacity;
+use stop_exchange::copy_part;
+use stop_exchange::feasible;
+
+use stop_exchange::offset;
+use stop_exchange::within_capacity;
+
+// Of the crates below, passed on to those above.
+pub use stop_exchange::Vehicle;
+pub use stop_exchange::eject;
+pub use stop_exchange::draw;
+pub use stop_exchange::draw_bool;
+pub use stop_exchange::other_than;
+pub use stop_exchange::try_exchange;
 
 // The front of route a up to i goes to the first work cells, and behind it the tail of route b from j. Returns how many stops these are.
 fn join(

@@ -4,14 +4,14 @@ use Prim.Native.Nat.{ℕ}
 use mathlib.Core.Path.{◌≡◌, sym, ap, ◌∙◌}
 use mathlib.Core.Bool.{Bool, true, false}
 use lib.Ieee.{Float, lt}
-use Rattle.floats.specs.Binary64.{◌⊕◌, max}
-use Rattle.models.specs.declared.customer.TimeWindow.{TimeWindow}
-use Rattle.models.specs.declared.customer.Window.TheVariants.{None as NoWindow, Is as WindowIs}
-use Rattle.models.specs.declared.customer.Penalty.TheVariants.{None as NoPenalty, Of as PenaltyOf}
-use Rattle.models.specs.declared.customer.Customer.{Customer}
-use Rattle.models.specs.declared.vehicle.Rest.{Rest}
-use Rattle.models.specs.declared.vehicle.Rest.TheVariants.{None as NoRest, Break}
-use Rattle.models.specs.TimeWindow.{waiting_time, is_violated, lateness}
+use Rattle.distance.specs.floats.Binary64.{◌⊕◌, max}
+use Rattle.distance.specs.models.declared.customer.TimeWindow.{TimeWindow}
+use Rattle.distance.specs.models.declared.customer.Window.TheVariants.{None as NoWindow, Is as WindowIs}
+use Rattle.distance.specs.models.declared.customer.Penalty.TheVariants.{None as NoPenalty, Of as PenaltyOf}
+use Rattle.distance.specs.models.declared.customer.Customer.{Customer}
+use Rattle.distance.specs.models.declared.vehicle.Rest.{Rest}
+use Rattle.distance.specs.models.declared.vehicle.Rest.TheVariants.{None as NoRest, Break}
+use Rattle.distance.specs.models.TimeWindow.{waiting_time, is_violated, lateness}
 use Rattle.labels.specs.declared.Taken.{Taken}
 use Rattle.labels.specs.declared.Taken.TheVariants.{At as TakenAt}
 use Rattle.labels.specs.declared.Label.{Label}

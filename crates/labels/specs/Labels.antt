@@ -1,15 +1,15 @@
 -- A label and one stop of its route (evaluation/schedule.rs; "The break"). Assumes nothing.
 use Rattle.std.specs.Prelude.{ℕ, Bool, true, false, cond, ◌&&◌, ◌||◌, Float}
 use Rattle.std.specs.Float.Ieee.{lt, eq}
-use Rattle.floats.specs.Binary64.{◌⊕◌, ◌⊗◌, 0f, max}
-use Rattle.models.specs.declared.customer.Window.{Window}
-use Rattle.models.specs.declared.customer.Window.TheVariants.{None as NoWindow, Is as WindowIs}
-use Rattle.models.specs.declared.customer.Penalty.{Penalty}
-use Rattle.models.specs.declared.customer.Penalty.TheVariants.{None as NoPenalty, Of as PenaltyOf}
-use Rattle.models.specs.declared.customer.Customer.{Customer}
-use Rattle.models.specs.declared.vehicle.Rest.{Rest}
-use Rattle.models.specs.declared.vehicle.Rest.TheVariants.{None as NoRest, Break}
-use Rattle.models.specs.TimeWindow.{waiting_time, is_violated, lateness}
+use Rattle.distance.specs.floats.Binary64.{◌⊕◌, ◌⊗◌, 0f, max}
+use Rattle.distance.specs.models.declared.customer.Window.{Window}
+use Rattle.distance.specs.models.declared.customer.Window.TheVariants.{None as NoWindow, Is as WindowIs}
+use Rattle.distance.specs.models.declared.customer.Penalty.{Penalty}
+use Rattle.distance.specs.models.declared.customer.Penalty.TheVariants.{None as NoPenalty, Of as PenaltyOf}
+use Rattle.distance.specs.models.declared.customer.Customer.{Customer}
+use Rattle.distance.specs.models.declared.vehicle.Rest.{Rest}
+use Rattle.distance.specs.models.declared.vehicle.Rest.TheVariants.{None as NoRest, Break}
+use Rattle.distance.specs.models.TimeWindow.{waiting_time, is_violated, lateness}
 use Rattle.labels.specs.declared.Taken.{Taken}
 use Rattle.labels.specs.declared.Taken.TheVariants.{No as NotTaken, At as TakenAt}
 use Rattle.labels.specs.declared.Label.{Label}

@@ -1,3 +1,8 @@
 -- What the contracts of this crate cite.
 -- schedule.rs: labels, one stop
 pub mod Labels
+-- crates below, passed on to those above
+pub use Rattle.distance.specs.laws as laws
+pub use Rattle.distance.specs.floats as floats
+pub use Rattle.distance.specs.models as models
+pub use Rattle.distance.specs as distance

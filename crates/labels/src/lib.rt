@@ -4,9 +4,31 @@
 ghost use Rattle.std.specs.Prelude.{◌≡◌};
 ghost use Rattle.labels.specs.Labels.{serve_at, serve, served_from, sooner, earlier, lives};
 
-use float_functions::max;
-use models::customer::{Customer, Penalty, Window};
-use models::vehicle::Rest;
+// Of the crates below, passed on to those above.
+pub use distance::abs;
+pub use distance::infinity;
+pub use distance::is_finite;
+pub use distance::max;
+pub use distance::min;
+pub use distance::total_less;
+pub use distance::Customer;
+pub use distance::Penalty;
+pub use distance::Window;
+pub use distance::RouteLimits;
+pub use distance::Rest;
+pub use distance::Vehicle;
+pub use distance::VehicleBreak;
+pub use distance::customer_at;
+pub use distance::penalty_at;
+pub use distance::window_at;
+pub use distance::get;
+pub use distance::largest;
+pub use distance::scale;
+pub use distance::travel_time;
+
+
+
+
 
 // The break, if taken: the index in the route of the stop that it comes before the service of, and its start. `Option<(usize, f64)>`.
 #[derive(Clone, Copy)]

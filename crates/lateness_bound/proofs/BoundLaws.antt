@@ -12,17 +12,17 @@ use lib.Dec.{T}
 use lib.IntN.{pos}
 use lib.Ieee.{Float, nan, binary64, of_int, in_float}
 use borrow.Author.Tests.{eq-eqb, ne_eqb, le-leb}
-use Rattle.floats.specs.Binary64.{◌⊕◌, ◌⊗◌, 0f, max}
-use Rattle.laws.specs.Loops.{loop, foldl, loop_more}
-use Rattle.models.specs.declared.customer.TimeWindow.{TimeWindow}
-use Rattle.models.specs.declared.customer.Window.{Window}
-use Rattle.models.specs.declared.customer.Window.TheVariants.{Is as WindowIs}
-use Rattle.models.specs.declared.customer.Penalty.{Penalty}
-use Rattle.models.specs.declared.customer.Penalty.TheVariants.{Of as PenaltyOf}
-use Rattle.models.specs.Customer.{customers, window_at, penalty_at}
-use Rattle.models.specs.Problem.{matrix, Square}
-use Rattle.distance.specs.Matrix.{largest}
-use Rattle.evaluation.specs.Check.{has_soft_windows}
+use Rattle.route_worth.specs.floats.Binary64.{◌⊕◌, ◌⊗◌, 0f, max}
+use Rattle.route_worth.specs.laws.Loops.{loop, foldl, loop_more}
+use Rattle.route_worth.specs.models.declared.customer.TimeWindow.{TimeWindow}
+use Rattle.route_worth.specs.models.declared.customer.Window.{Window}
+use Rattle.route_worth.specs.models.declared.customer.Window.TheVariants.{Is as WindowIs}
+use Rattle.route_worth.specs.models.declared.customer.Penalty.{Penalty}
+use Rattle.route_worth.specs.models.declared.customer.Penalty.TheVariants.{Of as PenaltyOf}
+use Rattle.route_worth.specs.models.Customer.{customers, window_at, penalty_at}
+use Rattle.route_worth.specs.models.Problem.{matrix, Square}
+use Rattle.route_worth.specs.distance.Matrix.{largest}
+use Rattle.route_worth.specs.evaluation.Check.{has_soft_windows}
 use Rattle.lateness_bound.specs.Bound.{with_window, with_penalty, later_window, dearer_penalty, latest_window, dearest_penalty, slowest, lateness_bound}
 
 -- ---- one place

@@ -2,16 +2,16 @@
 use Rattle.std.specs.Prelude.{ℕ, List, cond, length, pos, Float}
 use Rattle.std.specs.Float.{binary64}
 use Rattle.std.specs.Float.Ieee.{of_int}
-use Rattle.floats.specs.Binary64.{◌⊕◌, ◌⊗◌, 0f, max}
-use Rattle.laws.specs.Loops.{loop}
-use Rattle.models.specs.declared.customer.Window.{Window}
-use Rattle.models.specs.declared.customer.Window.TheVariants.{None as NoWindow, Is as WindowIs}
-use Rattle.models.specs.declared.customer.Penalty.{Penalty}
-use Rattle.models.specs.declared.customer.Penalty.TheVariants.{None as NoPenalty, Of as PenaltyOf}
-use Rattle.models.specs.Customer.{Customers, window_at, penalty_at}
-use Rattle.models.specs.Problem.{DistanceMatrix}
-use Rattle.distance.specs.Matrix.{travel_time, largest}
-use Rattle.evaluation.specs.Check.{has_soft_windows}
+use Rattle.route_worth.specs.floats.Binary64.{◌⊕◌, ◌⊗◌, 0f, max}
+use Rattle.route_worth.specs.laws.Loops.{loop}
+use Rattle.route_worth.specs.models.declared.customer.Window.{Window}
+use Rattle.route_worth.specs.models.declared.customer.Window.TheVariants.{None as NoWindow, Is as WindowIs}
+use Rattle.route_worth.specs.models.declared.customer.Penalty.{Penalty}
+use Rattle.route_worth.specs.models.declared.customer.Penalty.TheVariants.{None as NoPenalty, Of as PenaltyOf}
+use Rattle.route_worth.specs.models.Customer.{Customers, window_at, penalty_at}
+use Rattle.route_worth.specs.models.Problem.{DistanceMatrix}
+use Rattle.route_worth.specs.distance.Matrix.{travel_time, largest}
+use Rattle.route_worth.specs.evaluation.Check.{has_soft_windows}
 
 abbrev pub with_window : Float → Window → Float
 with_window most NoWindow = most

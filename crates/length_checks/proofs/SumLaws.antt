@@ -10,8 +10,8 @@ use lib.Dec.{eqb}
 use mir.Syntax.{w64}
 use mir.Val.{Fits}
 use borrow.Author.Tests.{lt-ltb, le-ltb}
-use Rattle.plan.specs.Plan.{Slices, total, offset}
-use Rattle.plan.specs.Slices.{offset_more}
+use Rattle.entry.specs.plan.Plan.{Slices, total, offset}
+use Rattle.entry.specs.plan.Slices.{offset_more}
 use Rattle.entry.specs.Table.{bad_lengths}
 
 -- the first k lengths, of u16 each, sum to `sum`

@@ -2,8 +2,18 @@
 #![tactic(auto)]
 
 ghost use Rattle.std.specs.Prelude.{◌≡◌, ◌≤◌, length};
-ghost use Rattle.plan.specs.Plan.{Slices, total};
+ghost use Rattle.entry.specs.plan.Plan.{Slices, total};
 ghost use Rattle.entry.specs.Table.{bad_lengths};
+
+// Of the crates below, passed on to those above.
+pub use entry::Vehicle;
+pub use entry::Taken;
+pub use entry::Eval;
+pub use entry::RouteEval;
+pub use entry::break_schedule_schedule;
+pub use entry::evaluation_check;
+pub use entry::route_cost_gain_floor;
+pub use entry::route_cost_route_distance;
 
 // The sum of the lengths.
 fn total(lengths: &[u16]) -> usize

@@ -7,8 +7,8 @@ use native.Mathlib.Omega.{arith}
 use lib.Dec.{ltb}
 use lib.IntN.{ℤ, pos, negsuc}
 use lib.ListN.{length, length-append}
-use Rattle.models.specs.Problem.{Problem}
-use Rattle.plan.specs.Plan.{Plan, flat}
+use Rattle.local_search.specs.models.Problem.{Problem}
+use Rattle.local_search.specs.plan.Plan.{Plan, flat}
 use Rattle.local_search.specs.declared.rounds.Counts.{Counts}
 use Rattle.sheet_text.specs.Text.{bytes}
 use Rattle.listing.specs.Decimal.{text, digits, decimal, signed}

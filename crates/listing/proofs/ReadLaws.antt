@@ -3,10 +3,10 @@
 use Prim.Native.Nat.{ℕ, suc}
 use mathlib.Core.Path.{◌≡◌, refl, sym}
 use mathlib.Core.List.{List, [], ◌∷◌}
-use Rattle.models.specs.Problem.{Problem, depot}
-use Rattle.plan.specs.Plan.{Plan}
+use Rattle.local_search.specs.models.Problem.{Problem, depot}
+use Rattle.local_search.specs.plan.Plan.{Plan}
 use Rattle.local_search.specs.declared.rounds.Counts.{Counts}
-use Rattle.route_cost.specs.Route.{route_distance}
+use Rattle.local_search.specs.route_cost.Route.{route_distance}
 use Rattle.local_search.proofs.ReadLaws.{distance_any}
 use Rattle.listing.specs.Listing.{of_listing, Prints, route_lines, listing}
 

@@ -2,16 +2,16 @@
 use Rattle.std.specs.Prelude.{ℕ, suc, ◌≡◌, refl, List, [], ◌∷◌, ◌++◌, length, ℤ, pos, negsuc, T, Float}
 use Rattle.std.specs.Float.{binary64}
 use Rattle.std.specs.Float.Ieee.{add, of_int, in_unsigned, to_unsigned}
-use Rattle.floats.specs.Whole.{nat}
-use Rattle.models.specs.declared.vehicle.Limit.TheVariants.{None as NoLimit}
-use Rattle.models.specs.declared.vehicle.Rest.TheVariants.{None as NoRest}
-use Rattle.models.specs.declared.vehicle.Vehicle.{Vehicle}
-use Rattle.models.specs.Problem.{Problem, problem, depot}
-use Rattle.laws.specs.Loops.{foldl}
-use Rattle.plan.specs.Plan.{Plan}
+use Rattle.local_search.specs.floats.Whole.{nat}
+use Rattle.local_search.specs.models.declared.vehicle.Limit.TheVariants.{None as NoLimit}
+use Rattle.local_search.specs.models.declared.vehicle.Rest.TheVariants.{None as NoRest}
+use Rattle.local_search.specs.models.declared.vehicle.Vehicle.{Vehicle}
+use Rattle.local_search.specs.models.Problem.{Problem, problem, depot}
+use Rattle.local_search.specs.laws.Loops.{foldl}
+use Rattle.local_search.specs.plan.Plan.{Plan}
 use Rattle.local_search.specs.declared.rounds.Counts.{Counts}
-use Rattle.route_cost.specs.Route.{legs, route_distance}
-use Rattle.route_load.specs.Feasible.{load}
+use Rattle.local_search.specs.route_cost.Route.{legs, route_distance}
+use Rattle.local_search.specs.route_load.Feasible.{load}
 use Rattle.sheet_text.specs.Text.{bytes}
 use Rattle.listing.specs.Decimal.{text, digits, decimal, signed}
 

@@ -2,3 +2,9 @@
 // This crate has no code: its definitions are in specs/, its laws in proofs/; `listing_numbers`, `listing_lines`, `listing_totals`, `listing_routes` and
 // `listing_whole` write.
 #![tactic(auto)]
+
+// Of the crates below, passed on to those above.
+pub use local_search::Vehicle;
+pub use local_search::route_cost_route_distance;
+pub use local_search::load;
+pub use local_search::rounds::Counts;

@@ -1,10 +1,15 @@
 // The route lines of a listing, written into lent bytes.
 #![tactic(auto)]
 
-ghost use Rattle.listing.specs.Listing.{stop, stops as Listing·stops, route_line};
-ghost use Rattle.listing.specs.Written.{Room, Written};
+ghost use Rattle.listing_numbers.specs.listing.Listing.{stop, stops as Listing·stops, route_line};
+ghost use Rattle.listing_numbers.specs.listing.Written.{Room, Written};
 
 use listing_numbers::{put_bytes, put_decimal, put_signed};
+
+// Of the crates below, passed on to those above.
+pub use listing_numbers::Vehicle;
+pub use listing_numbers::route_cost_route_distance;
+pub use listing_numbers::load;
 
 // A stop behind a space.
 fn put_stop(out: &mut [u8], at: usize, c: u64) -> usize

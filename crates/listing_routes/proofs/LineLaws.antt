@@ -12,20 +12,20 @@ use lib.Seq.{drop-cons}
 use mir.Syntax.{w32}
 use mir.Val.{to_z, of_z}
 use mir.ValLaws.{to_z-of_z}
-use Rattle.laws.specs.All.{All, all_get}
-use Rattle.laws.specs.Ints.{sfits_abs}
-use Rattle.models.specs.declared.vehicle.Vehicle.{Vehicle}
-use Rattle.models.specs.Problem.{Problem, matrix, Stops, Demands}
-use Rattle.plan.specs.Plan.{Plan, Lent, split, route}
-use Rattle.plan.specs.Slices.{length_split}
-use Rattle.route_cost.specs.Route.{route_distance}
-use Rattle.route_load.specs.Feasible.{load}
-use Rattle.route_load.proofs.FeasibleLaws.{demands_own, stops_own, load_small}
-use Rattle.route_cost.proofs.VisitLaws.{Visiting, visit_start, part_is, part_stops, visit_more}
-use Rattle.listing.specs.Decimal.{text}
-use Rattle.listing.specs.Listing.{whole, of_listing, Prints, route_line, line_of, route_lines}
-use Rattle.listing.specs.Written.{Room, Written}
-use Rattle.listing.proofs.WriteLaws.{Writing, writing_start, writing_end, writing_more, writing_room, room_front}
+use Rattle.listing_lines.specs.laws.All.{All, all_get}
+use Rattle.listing_lines.specs.laws.Ints.{sfits_abs}
+use Rattle.listing_lines.specs.models.declared.vehicle.Vehicle.{Vehicle}
+use Rattle.listing_lines.specs.models.Problem.{Problem, matrix, Stops, Demands}
+use Rattle.listing_lines.specs.plan.Plan.{Plan, Lent, split, route}
+use Rattle.listing_lines.specs.plan.Slices.{length_split}
+use Rattle.listing_lines.specs.route_cost.Route.{route_distance}
+use Rattle.listing_lines.specs.route_load.Feasible.{load}
+use Rattle.listing_lines.proofs.of_route_load.FeasibleLaws.{demands_own, stops_own, load_small}
+use Rattle.listing_lines.proofs.of_route_cost.VisitLaws.{Visiting, visit_start, part_is, part_stops, visit_more}
+use Rattle.listing_lines.specs.listing.Decimal.{text}
+use Rattle.listing_lines.specs.listing.Listing.{whole, of_listing, Prints, route_line, line_of, route_lines}
+use Rattle.listing_lines.specs.listing.Written.{Room, Written}
+use Rattle.listing_lines.proofs.of_listing.WriteLaws.{Writing, writing_start, writing_end, writing_more, writing_room, room_front}
 
 -- ---- one route: its load and its distance are handed on
 

@@ -2,16 +2,16 @@
 #![tactic(auto)]
 
 ghost use Rattle.std.specs.Prelude.{◌≡◌, ◌*◌, ◌<◌, ◌≤◌, length};
-ghost use Rattle.laws.specs.All.{All};
-ghost use Rattle.models.specs.Problem.{Stops, Demands};
-ghost use Rattle.plan.specs.Plan.{Lent, split};
-ghost use Rattle.listing.specs.Listing.{of_listing, Prints, line_of, route_lines};
-ghost use Rattle.listing.specs.Written.{Room, Written};
+ghost use Rattle.listing_lines.specs.laws.All.{All};
+ghost use Rattle.listing_lines.specs.models.Problem.{Stops, Demands};
+ghost use Rattle.listing_lines.specs.plan.Plan.{Lent, split};
+ghost use Rattle.listing_lines.specs.listing.Listing.{of_listing, Prints, line_of, route_lines};
+ghost use Rattle.listing_lines.specs.listing.Written.{Room, Written};
 
 use listing_lines::put_route_line;
-use models::vehicle::Vehicle;
-use route_cost::route_distance;
-use route_load::load;
+use listing_lines::Vehicle;
+use listing_lines::route_cost_route_distance as route_distance;
+use listing_lines::load;
 
 // The line of a route, with its load and its distance.
 fn put_route(

@@ -1,10 +1,14 @@
 // The first and the last line of a listing and the line of a refusal, written into lent bytes.
 #![tactic(auto)]
 
-ghost use Rattle.listing.specs.Listing.{first_line, last_line, refusal_line};
-ghost use Rattle.listing.specs.Written.{Room, Written};
+ghost use Rattle.listing_numbers.specs.listing.Listing.{first_line, last_line, refusal_line};
+ghost use Rattle.listing_numbers.specs.listing.Written.{Room, Written};
 
 use listing_numbers::{put_bytes, put_decimal};
+
+// Of the crates below, passed on to those above.
+pub use listing_numbers::Vehicle;
+pub use listing_numbers::Counts;
 
 // The first line of a listing.
 pub fn put_first_line(out: &mut [u8], at: usize, routes: u64) -> usize

@@ -5,15 +5,15 @@ use mathlib.Core.List.{List, [], ◌∷◌}
 use native.Mathlib.Omega.{arith}
 use lib.ListN.{length, take, drop}
 use lib.Seq.{length-take-le}
-use Rattle.laws.specs.All.{All}
-use Rattle.models.specs.Problem.{Problem}
-use Rattle.plan.specs.Plan.{Plan, Lent, split}
-use Rattle.plan.specs.Slices.{length_split, offset_within}
-use Rattle.local_search.specs.declared.rounds.Counts.{Counts}
-use Rattle.listing.specs.Decimal.{text}
-use Rattle.listing.specs.Listing.{route_lines, first_line, last_line, listing}
-use Rattle.listing.specs.Written.{Room, Written}
-use Rattle.listing.proofs.WriteLaws.{room_first, room_more, text_more, text_last}
+use Rattle.listing_totals.specs.laws.All.{All}
+use Rattle.listing_totals.specs.models.Problem.{Problem}
+use Rattle.listing_totals.specs.plan.Plan.{Plan, Lent, split}
+use Rattle.listing_totals.specs.plan.Slices.{length_split, offset_within}
+use Rattle.listing_totals.specs.local_search.declared.rounds.Counts.{Counts}
+use Rattle.listing_totals.specs.listing.Decimal.{text}
+use Rattle.listing_totals.specs.listing.Listing.{route_lines, first_line, last_line, listing}
+use Rattle.listing_totals.specs.listing.Written.{Room, Written}
+use Rattle.listing_totals.proofs.of_listing.WriteLaws.{room_first, room_more, text_more, text_last}
 
 split_take : (ls s : List ℕ) (k : ℕ) → split (take k ls) s ≡ take k (split ls s)
 unfolding split

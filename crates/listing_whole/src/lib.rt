@@ -2,16 +2,19 @@
 #![tactic(auto)]
 
 ghost use Rattle.std.specs.Prelude.{◌≡◌, ◌*◌, ◌<◌, ◌≤◌, length, take};
-ghost use Rattle.laws.specs.All.{All};
-ghost use Rattle.models.specs.Problem.{Stops, Demands};
-ghost use Rattle.plan.specs.Plan.{Lent, split};
-ghost use Rattle.listing.specs.Listing.{of_listing, Prints, listing};
-ghost use Rattle.listing.specs.Written.{Room, Written};
+ghost use Rattle.listing_totals.specs.laws.All.{All};
+ghost use Rattle.listing_totals.specs.models.Problem.{Stops, Demands};
+ghost use Rattle.listing_totals.specs.plan.Plan.{Lent, split};
+ghost use Rattle.listing_totals.specs.listing.Listing.{of_listing, Prints, listing};
+ghost use Rattle.listing_totals.specs.listing.Written.{Room, Written};
 
 use listing_routes::put_routes;
 use listing_totals::{put_first_line, put_last_line};
-use local_search::rounds::Counts;
-use models::vehicle::Vehicle;
+use listing_totals::Counts;
+use listing_totals::Vehicle;
+
+// Of the crates below, passed on to those above.
+pub use listing_totals::put_refusal;
 
 // The listing of the plan that the first `routes` routes of two slices are, from position 0 on.
 pub fn put_listing(

@@ -9,15 +9,15 @@ use native.Mathlib.Nat.{le_refl}
 use native.Mathlib.Omega.{arith}
 use lib.ListN.{length, take}
 use lib.Dec.{eqb}
-use Rattle.laws.specs.Counts.{same_length}
-use Rattle.laws.specs.Keeps.{length_keep}
+use Rattle.route_order.specs.laws.Counts.{same_length}
+use Rattle.route_order.specs.laws.Keeps.{length_keep}
 use Rattle.route_order.specs.declared.Pick.{Pick}
 use Rattle.route_order.specs.declared.Pick.TheVariants.{Nothing, At}
-use Rattle.plan.specs.Plan.{Plan, Lent, split, flat, total, padded, drop_zero, drop_empty}
+use Rattle.route_order.specs.plan.Plan.{Plan, Lent, split, flat, total, padded, drop_zero, drop_empty}
 use Rattle.route_order.specs.Order.{next_pick, following}
 use Rattle.route_order.specs.Following.{following_at, following_nothing, next_pick_inside}
-use Rattle.plan.specs.Slices.{length_split, flat_split_all, lengths_split, total_lengths}
-use Rattle.plan.specs.Dropped.{length_padded, take_padded, total_drop_zero, drop_empty_slices, flat_drop_empty, occurs_drop_empty}
+use Rattle.route_order.specs.plan.Slices.{length_split, flat_split_all, lengths_split, total_lengths}
+use Rattle.route_order.specs.plan.Dropped.{length_padded, take_padded, total_drop_zero, drop_empty_slices, flat_drop_empty, occurs_drop_empty}
 use Rattle.local_search.specs.declared.rounds.Counts.{Counts}
 use Rattle.local_search.specs.Options.{each_found}
 use Rattle.local_search.specs.Planned.{Planned, planned_as}

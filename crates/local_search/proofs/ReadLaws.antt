@@ -6,14 +6,14 @@ use mathlib.Core.Bool.{Bool}
 use mathlib.Core.List.{List, [], ◌∷◌}
 use lib.IntN.{ℤ}
 use lib.Ieee.{Float}
-use Rattle.floats.specs.Binary64.{◌⊕◌, 0f}
-use Rattle.laws.specs.Loops.{foldl}
-use Rattle.models.specs.declared.vehicle.Vehicle.{Vehicle}
-use Rattle.models.specs.Vehicle.{fixed_cost_in_distance}
-use Rattle.models.specs.Problem.{matrix, problem, of_demand, of_distances}
-use Rattle.distance.specs.Matrix.{cell}
-use Rattle.plan.specs.Plan.{Plan}
-use Rattle.route_cost.specs.Route.{legs, route_distance, insertion_cost, cost}
+use Rattle.route_load.specs.floats.Binary64.{◌⊕◌, 0f}
+use Rattle.route_order.specs.laws.Loops.{foldl}
+use Rattle.route_load.specs.models.declared.vehicle.Vehicle.{Vehicle}
+use Rattle.route_load.specs.models.Vehicle.{fixed_cost_in_distance}
+use Rattle.route_load.specs.models.Problem.{matrix, problem, of_demand, of_distances}
+use Rattle.route_load.specs.distance.Matrix.{cell}
+use Rattle.route_order.specs.plan.Plan.{Plan}
+use Rattle.route_load.specs.route_cost.Route.{legs, route_distance, insertion_cost, cost}
 use Rattle.route_load.specs.Feasible.{has_room}
 
 module _ (n : ℕ) (distances times : List Float) (depot : ℕ) where

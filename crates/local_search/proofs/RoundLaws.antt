@@ -9,9 +9,9 @@ use native.Mathlib.Omega.{arith}
 use borrow.Author.Tests.{eqb-true, eqb-false}
 use lib.ListN.{length}
 use lib.Dec.{eqb}
-use Rattle.laws.specs.Keeps.{length_keep}
-use Rattle.laws.specs.Sorts.{range, smallest, sort_by}
-use Rattle.plan.specs.Plan.{Plan, non_empty, drop_empty}
+use Rattle.route_order.specs.laws.Keeps.{length_keep}
+use Rattle.route_order.specs.laws.Sorts.{range, smallest, sort_by}
+use Rattle.route_order.specs.plan.Plan.{Plan, non_empty, drop_empty}
 use Rattle.local_search.specs.Options.{Each, each_found}
 use Rattle.local_search.specs.declared.rounds.Counts.{Counts}
 use Rattle.local_search.specs.Rounds.{Tried, Result, Attempt, try_each, try_all, or_end, rounds}

@@ -8,16 +8,16 @@ use native.Mathlib.Nat.{not-suc-le-zero, suc-mul, mul-add, mul_comm, mul-le-mul_
 use native.Mathlib.Omega.{arith}
 use lib.ListN.{length, take, drop, replicate, length-append, take-append-drop}
 use lib.Seq.{drop_at, length-take-le}
-use Rattle.laws.specs.Keeps.{keep}
-use Rattle.laws.specs.Sorts.{range, smallest, sort_by, length_sort_by, length_range}
-use Rattle.laws.specs.Counts.{count as count_of}
+use Rattle.route_order.specs.laws.Keeps.{keep}
+use Rattle.route_order.specs.laws.Sorts.{range, smallest, sort_by, length_sort_by, length_range}
+use Rattle.route_order.specs.laws.Counts.{count as count_of}
 use Rattle.route_order.specs.declared.Pick.{Pick}
 use Rattle.route_order.specs.declared.Pick.TheVariants.{Nothing}
-use Rattle.plan.specs.Plan.{Plan, Lent, split, flat, lengths_of, total, padded, drop_zero, drop_empty}
+use Rattle.route_order.specs.plan.Plan.{Plan, Lent, split, flat, lengths_of, total, padded, drop_zero, drop_empty}
 use Rattle.route_order.specs.Order.{order, following}
 use Rattle.route_order.specs.Following.{following_all}
-use Rattle.plan.specs.Slices.{length_split, lengths_split, flat_split_all}
-use Rattle.plan.specs.Dropped.{total_padded, total_drop_zero, drop_zero_padded, split_padded, drop_empty_padded}
+use Rattle.route_order.specs.plan.Slices.{length_split, lengths_split, flat_split_all}
+use Rattle.route_order.specs.plan.Dropped.{total_padded, total_drop_zero, drop_zero_padded, split_padded, drop_empty_padded}
 use Rattle.local_search.specs.declared.rounds.Counts.{Counts}
 use Rattle.local_search.specs.declared.rounds.Next.{Next}
 use Rattle.local_search.specs.declared.rounds.Next.TheVariants.{End, Kept, Accepted}

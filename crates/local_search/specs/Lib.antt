@@ -13,3 +13,15 @@ pub mod Reduced
 pub mod Search
 -- every definition, opened for theorems by computation
 pub mod Opened
+-- crates below, passed on to those above
+pub use Rattle.route_order.specs.laws as laws
+pub use Rattle.route_load.specs.floats as floats
+pub use Rattle.route_load.specs.models as models
+pub use Rattle.route_load.specs.distance as distance
+pub use Rattle.route_load.specs.labels as labels
+pub use Rattle.route_load.specs.break_clock as break_clock
+pub use Rattle.route_load.specs.evaluation as evaluation
+pub use Rattle.route_order.specs.plan as plan
+pub use Rattle.route_order.specs as route_order
+pub use Rattle.route_load.specs.route_cost as route_cost
+pub use Rattle.route_load.specs as route_load

@@ -1,11 +1,11 @@
 -- A plan over n places, which the searches ask for and keep: row 6 of the table leaves it so. Assumes nothing.
 use Rattle.std.specs.Prelude.{ℕ, zero, suc, ◌+◌, ◌≤◌, ◌<◌, ◌≡◌, refl, Bool, true, false, List, [], ◌∷◌, ◌++◌, length, get_or, leb, eqb}
 use Rattle.std.proofs.Common.{sym, ap, ◌∙◌, le_of_suc-le-suc, not-suc-le-zero, arith, eq-eqb, leb-true, leb-false, length-append}
-use Rattle.laws.specs.All.{All, all_nil, all_cons}
-use Rattle.laws.specs.Counts.{one_if, count, count_append}
-use Rattle.models.specs.Problem.{Stops}
-use Rattle.plan.specs.Plan.{Plan, flat, occurs, split, total, Lent}
-use Rattle.plan.specs.Slices.{flat_split, holds_self, holds_number}
+use Rattle.route_order.specs.laws.All.{All, all_nil, all_cons}
+use Rattle.route_order.specs.laws.Counts.{one_if, count, count_append}
+use Rattle.route_load.specs.models.Problem.{Stops}
+use Rattle.route_order.specs.plan.Plan.{Plan, flat, occurs, split, total, Lent}
+use Rattle.route_order.specs.plan.Slices.{flat_split, holds_self, holds_number}
 
 -- no place but 0 to n − 1 is a stop, and there are no more stops than there can be places
 pub record Planned (n : ℕ) (plan : Plan) : Type 0 where

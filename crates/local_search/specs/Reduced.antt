@@ -6,12 +6,12 @@ use Rattle.std.proofs.Common.{◌∙◌, subst, arith, suc-mul, mul-add, mul_com
 use Rattle.std.proofs.Math.Option.{Option, none, some}
 use Rattle.std.proofs.Math.Nat.{le_refl}
 use Rattle.std.proofs.lemmas.List.{length-map}
-use Rattle.laws.specs.All.{All, all_cons, all_head}
-use Rattle.laws.specs.Keeps.{length_keep, all_keep}
-use Rattle.laws.specs.Sorts.{range, smallest, sort_by, all_range, all_sort_by, length_range, length_sort_by}
-use Rattle.plan.specs.Plan.{Plan, lengths_of, non_empty, drop_empty, occurs}
+use Rattle.route_order.specs.laws.All.{All, all_cons, all_head}
+use Rattle.route_order.specs.laws.Keeps.{length_keep, all_keep}
+use Rattle.route_order.specs.laws.Sorts.{range, smallest, sort_by, all_range, all_sort_by, length_range, length_sort_by}
+use Rattle.route_order.specs.plan.Plan.{Plan, lengths_of, non_empty, drop_empty, occurs}
 use Rattle.route_order.specs.Order.{order}
-use Rattle.plan.specs.Dropped.{occurs_drop_empty}
+use Rattle.route_order.specs.plan.Dropped.{occurs_drop_empty}
 use Rattle.local_search.specs.Options.{Each, each_found, each_map}
 use Rattle.local_search.specs.declared.rounds.Counts.{Counts}
 use Rattle.local_search.specs.Rounds.{Tried, Result, Attempt, try_each, try_all, or_end, rounds, reduce}

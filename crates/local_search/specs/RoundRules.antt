@@ -4,7 +4,7 @@ use Rattle.std.specs.Prelude.{◌≡◌}
 use Rattle.std.proofs.Math.Path.{refl}
 use mathlib.Core.List.{List, [], ◌∷◌}
 use Rattle.std.proofs.Math.Option.{Option, none, some}
-use Rattle.plan.specs.Plan.{Plan, drop_empty}
+use Rattle.route_order.specs.plan.Plan.{Plan, drop_empty}
 use Rattle.local_search.specs.declared.rounds.Counts.{Counts}
 use Rattle.local_search.specs.Rounds.{Tried, Result, Attempt, or_next, try_each, try_all, or_end, rounds}
 

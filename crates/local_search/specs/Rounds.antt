@@ -1,7 +1,7 @@
 -- The rounds that both searches share: attempts to do without a route, the shortest first, begun again as soon as one is accepted. Assumes nothing.
 use Rattle.std.specs.Prelude.{ℕ, zero, suc, List, [], ◌∷◌, length}
 use Rattle.std.proofs.Math.Option.{Option, none, some}
-use Rattle.plan.specs.Plan.{Plan, lengths_of, drop_empty}
+use Rattle.route_order.specs.plan.Plan.{Plan, lengths_of, drop_empty}
 use Rattle.route_order.specs.Order.{order}
 use Rattle.local_search.specs.declared.rounds.Counts.{Counts}
 

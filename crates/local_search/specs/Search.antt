@@ -3,7 +3,7 @@
 use Rattle.std.specs.Prelude.{ℕ, suc, ◌+◌, ◌-◌, ◌<◌, ◌≡◌, List, [], ◌∷◌, ◌++◌, length, take}
 use Rattle.std.proofs.Math.Option.{none, some}
 use Rattle.route_order.specs.declared.Pick.{Pick}
-use Rattle.plan.specs.Plan.{Plan, Slices, Lent, split, total, written}
+use Rattle.route_order.specs.plan.Plan.{Plan, Slices, Lent, split, total, written}
 use Rattle.route_order.specs.Order.{following}
 use Rattle.local_search.specs.declared.rounds.Counts.{Counts}
 use Rattle.local_search.specs.declared.rounds.Next.{Next}

@@ -1,18 +1,18 @@
 // The check of a route where it is needed, and whether a route is feasible.
 ghost use Rattle.std.specs.Prelude.{◌≡◌, [], ◌<◌, ◌≤◌, length};
-ghost use Rattle.laws.specs.Edits.{insert_at};
-ghost use Rattle.models.specs.Customer.{customers};
-ghost use Rattle.models.specs.RouteLimits.{limits_of};
-ghost use Rattle.models.specs.Problem.{matrix, problem, Fit, Stops, Demands};
-ghost use Rattle.evaluation.specs.Check.{route_checks_needed};
+ghost use Rattle.route_order.specs.laws.Edits.{insert_at};
+ghost use Rattle.route_load.specs.models.Customer.{customers};
+ghost use Rattle.route_load.specs.models.RouteLimits.{limits_of};
+ghost use Rattle.route_load.specs.models.Problem.{matrix, problem, Fit, Stops, Demands};
+ghost use Rattle.route_load.specs.evaluation.Check.{route_checks_needed};
 ghost use Rattle.route_load.specs.Feasible.{checked, feasible};
 
-use evaluation::check::route_feasible;
-use models::limits::RouteLimits;
-use models::vehicle::Vehicle;
-use route_checks::route_checks_needed;
+use route_load::evaluation_route_feasible as route_feasible;
+use route_load::RouteLimits;
+use route_load::Vehicle;
+use route_load::route_checks_needed;
 use route_load::within_capacity;
-use trial_route::trial_feasible;
+use route_load::trial_feasible;
 
 // Whether the route check is needed. A search asks this once.
 pub fn constrained(flags: &[u8], vehicle: Vehicle) -> bool

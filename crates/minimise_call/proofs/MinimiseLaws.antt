@@ -5,16 +5,16 @@ use mathlib.Core.List.{List}
 use native.Mathlib.Omega.{arith}
 use lib.ListN.{length}
 use lib.Ieee.{Float}
-use Rattle.models.specs.Problem.{Problem}
-use Rattle.plan.specs.Plan.{Slices}
-use Rattle.local_search.specs.declared.rounds.Reduction.{Reduction}
-use Rattle.local_search.specs.Search.{Answers}
-use Rattle.minimization.specs.Minimize.{minimize_routes}
-use Rattle.minimization_search.specs.Minimizing.{Searching}
-use Rattle.ejection_pool.specs.Running.{allowance}
-use Rattle.entry.specs.Table.{Work, refusal}
-use Rattle.entry.specs.Given.{numbered, minimise_inputs}
-use Rattle.entry.proofs.AdmittedLaws.{not_refused, minimise_accepted}
+use Rattle.route_minimization.specs.models.Problem.{Problem}
+use Rattle.route_minimization.specs.plan.Plan.{Slices}
+use Rattle.route_minimization.specs.local_search.declared.rounds.Reduction.{Reduction}
+use Rattle.route_minimization.specs.local_search.Search.{Answers}
+use Rattle.route_minimization.specs.minimization.Minimize.{minimize_routes}
+use Rattle.route_minimization.specs.minimization_search.Minimizing.{Searching}
+use Rattle.route_minimization.specs.ejection_pool.Running.{allowance}
+use Rattle.refusals.specs.entry.Table.{Work, refusal}
+use Rattle.refusals.specs.entry.Given.{numbered, minimise_inputs}
+use Rattle.refusals.proofs.of_entry.AdmittedLaws.{not_refused, minimise_accepted}
 use Rattle.planner.specs.Calls.{refused, answered, Reply, plan_in, public_minimise}
 use Rattle.planner.specs.Told.{work_of}
 use Rattle.planner.proofs.CallLaws.{reply_refused, reply_answered}

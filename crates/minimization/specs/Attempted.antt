@@ -1,19 +1,19 @@
 -- What an attempt keeps: the stops of the plan, and the bounds of the counts. Assumes nothing.
 use Rattle.std.specs.Prelude.{ℕ, ◌+◌, ◌*◌, ◌≤◌, ◌<◌, ◌≡◌, true, List, [], length}
 use Rattle.std.proofs.Common.{arith}
-use Rattle.laws.specs.All.{All, all_of}
-use Rattle.laws.specs.Edits.{length_erase, all_erase}
-use Rattle.laws.specs.Counts.{count, count_reverse}
-use Rattle.models.specs.Problem.{Problem}
-use Rattle.plan.specs.Plan.{Plan, route, non_empty}
-use Rattle.plan.specs.Routes.{occurs_erase}
-use Rattle.local_search.specs.Options.{Each, each_then_some, each_bind}
-use Rattle.route_cost.specs.Route.{cost}
-use Rattle.route_load.specs.Feasible.{feasible}
-use Rattle.local_search.specs.declared.rounds.Counts.{Counts}
-use Rattle.local_search.specs.Reduced.{Better, Bounded, Reduces, reduces_fewer}
-use Rattle.ejection_pool.specs.Pool.{Allowance, empty_into}
-use Rattle.ejection_pool.specs.Placing.{pool_bounded, Placing, pool_keeps}
+use Rattle.pool_cost.specs.laws.All.{All, all_of}
+use Rattle.pool_cost.specs.laws.Edits.{length_erase, all_erase}
+use Rattle.pool_cost.specs.laws.Counts.{count, count_reverse}
+use Rattle.pool_cost.specs.models.Problem.{Problem}
+use Rattle.pool_cost.specs.plan.Plan.{Plan, route, non_empty}
+use Rattle.pool_cost.specs.plan.Routes.{occurs_erase}
+use Rattle.pool_cost.specs.local_search.Options.{Each, each_then_some, each_bind}
+use Rattle.pool_cost.specs.route_cost.Route.{cost}
+use Rattle.pool_cost.specs.route_load.Feasible.{feasible}
+use Rattle.pool_cost.specs.local_search.declared.rounds.Counts.{Counts}
+use Rattle.pool_cost.specs.local_search.Reduced.{Better, Bounded, Reduces, reduces_fewer}
+use Rattle.pool_cost.specs.ejection_pool.Pool.{Allowance, empty_into}
+use Rattle.pool_cost.specs.ejection_pool.Placing.{pool_bounded, Placing, pool_keeps}
 use Rattle.pool_cost.specs.Attempt.{if_cheaper, attempt}
 
 module _ (given : Allowance) (p : Problem) where

@@ -3,14 +3,14 @@
 use Rattle.std.specs.Prelude.{ℕ, ◌≡◌, refl, List, [], ◌∷◌, map, length, replicate, ℤ, pos, Float}
 use Rattle.std.specs.Float.{binary64}
 use Rattle.std.specs.Float.Ieee.{of_int}
-use Rattle.models.specs.declared.vehicle.Limit.TheVariants.{None as NoLimit}
-use Rattle.models.specs.declared.vehicle.Rest.TheVariants.{None as NoRest}
-use Rattle.models.specs.declared.vehicle.Vehicle.{Vehicle}
-use Rattle.models.specs.Problem.{Problem, problem}
-use Rattle.plan.specs.Plan.{Plan}
-use Rattle.local_search.specs.declared.rounds.Counts.{Counts}
-use Rattle.local_search.specs.Rounds.{Result}
-use Rattle.ejection_pool.specs.Pool.{Allowance}
+use Rattle.pool_cost.specs.models.declared.vehicle.Limit.TheVariants.{None as NoLimit}
+use Rattle.pool_cost.specs.models.declared.vehicle.Rest.TheVariants.{None as NoRest}
+use Rattle.pool_cost.specs.models.declared.vehicle.Vehicle.{Vehicle}
+use Rattle.pool_cost.specs.models.Problem.{Problem, problem}
+use Rattle.pool_cost.specs.plan.Plan.{Plan}
+use Rattle.pool_cost.specs.local_search.declared.rounds.Counts.{Counts}
+use Rattle.pool_cost.specs.local_search.Rounds.{Result}
+use Rattle.pool_cost.specs.ejection_pool.Pool.{Allowance}
 use Rattle.minimization.specs.Minimize.{minimize_routes}
 use Rattle.minimization.specs.Opened.{opened}
 

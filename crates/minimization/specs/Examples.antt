@@ -3,17 +3,17 @@ use Rattle.std.specs.Prelude.{ℕ, ◌≡◌, refl, true, false, List, [], ◌�
 use Rattle.std.proofs.Math.Option.{some}
 use Rattle.std.specs.Float.{binary64}
 use Rattle.std.specs.Float.Ieee.{of_bits, of_int}
-use Rattle.floats.specs.Binary64.{+∞, -∞}
-use Rattle.models.specs.declared.vehicle.Limit.{Limit}
-use Rattle.models.specs.declared.vehicle.Limit.TheVariants.{None as NoLimit, At as LimitAt}
-use Rattle.models.specs.declared.vehicle.Rest.TheVariants.{None as NoRest}
-use Rattle.models.specs.declared.vehicle.Vehicle.{Vehicle}
-use Rattle.models.specs.Problem.{Problem, problem}
-use Rattle.plan.specs.Plan.{Plan}
-use Rattle.route_load.specs.Feasible.{feasible}
-use Rattle.local_search.specs.declared.rounds.Counts.{Counts}
-use Rattle.quick_test.specs.Quick.{departures, latest_arrivals, may_fit}
-use Rattle.ejection_pool.specs.Pool.{Allowance}
+use Rattle.pool_cost.specs.floats.Binary64.{+∞, -∞}
+use Rattle.pool_cost.specs.models.declared.vehicle.Limit.{Limit}
+use Rattle.pool_cost.specs.models.declared.vehicle.Limit.TheVariants.{None as NoLimit, At as LimitAt}
+use Rattle.pool_cost.specs.models.declared.vehicle.Rest.TheVariants.{None as NoRest}
+use Rattle.pool_cost.specs.models.declared.vehicle.Vehicle.{Vehicle}
+use Rattle.pool_cost.specs.models.Problem.{Problem, problem}
+use Rattle.pool_cost.specs.plan.Plan.{Plan}
+use Rattle.pool_cost.specs.route_load.Feasible.{feasible}
+use Rattle.pool_cost.specs.local_search.declared.rounds.Counts.{Counts}
+use Rattle.pool_cost.specs.quick_test.Quick.{departures, latest_arrivals, may_fit}
+use Rattle.pool_cost.specs.ejection_pool.Pool.{Allowance}
 use Rattle.minimization.specs.Minimize.{minimize_routes}
 use Rattle.minimization.specs.Opened.{opened}
 

@@ -7,23 +7,23 @@ use Rattle.std.proofs.Math.Logic.{inl}
 use Rattle.std.proofs.Math.Option.{Option, none, some}
 use Rattle.std.proofs.Math.ListN.{length}
 use Rattle.std.specs.Float.Ieee.{lt}
-use Rattle.floats.specs.Order.{lt_lt_true}
-use Rattle.floats.specs.Gain.{accepted}
-use Rattle.laws.specs.All.{All}
-use Rattle.laws.specs.Edits.{erase}
-use Rattle.laws.specs.Keeps.{keep_passes, keep_all, keep_twice}
-use Rattle.laws.specs.Loops.{cond_rule}
-use Rattle.models.specs.Problem.{Problem}
-use Rattle.evaluation.specs.Check.{has_soft_windows}
-use Rattle.plan.specs.Plan.{Plan, route, non_empty, drop_empty}
-use Rattle.local_search.specs.Options.{Each, each_found, each_then_some, each_bind, each_both}
-use Rattle.route_cost.specs.Route.{cost}
-use Rattle.route_load.specs.RouteLaws.{cost_held}
-use Rattle.local_search.specs.declared.rounds.Counts.{Counts}
-use Rattle.local_search.specs.Rounds.{Result, try_all, rounds, reduce}
-use Rattle.local_search.specs.RoundRules.{rounds_rule}
-use Rattle.local_search.specs.Reduced.{Better, round_has}
-use Rattle.ejection_pool.specs.Pool.{Allowance, empty_into}
+use Rattle.pool_cost.specs.floats.Order.{lt_lt_true}
+use Rattle.pool_cost.specs.floats.Gain.{accepted}
+use Rattle.pool_cost.specs.laws.All.{All}
+use Rattle.pool_cost.specs.laws.Edits.{erase}
+use Rattle.pool_cost.specs.laws.Keeps.{keep_passes, keep_all, keep_twice}
+use Rattle.pool_cost.specs.laws.Loops.{cond_rule}
+use Rattle.pool_cost.specs.models.Problem.{Problem}
+use Rattle.pool_cost.specs.evaluation.Check.{has_soft_windows}
+use Rattle.pool_cost.specs.plan.Plan.{Plan, route, non_empty, drop_empty}
+use Rattle.pool_cost.specs.local_search.Options.{Each, each_found, each_then_some, each_bind, each_both}
+use Rattle.pool_cost.specs.route_cost.Route.{cost}
+use Rattle.pool_cost.specs.route_load.RouteLaws.{cost_held}
+use Rattle.pool_cost.specs.local_search.declared.rounds.Counts.{Counts}
+use Rattle.pool_cost.specs.local_search.Rounds.{Result, try_all, rounds, reduce}
+use Rattle.pool_cost.specs.local_search.RoundRules.{rounds_rule}
+use Rattle.pool_cost.specs.local_search.Reduced.{Better, round_has}
+use Rattle.pool_cost.specs.ejection_pool.Pool.{Allowance, empty_into}
 use Rattle.pool_cost.specs.Attempt.{if_cheaper, attempt}
 use Rattle.minimization.specs.Minimize.{minimize_routes}
 use Rattle.minimization.specs.Attempted.{attempt_better}

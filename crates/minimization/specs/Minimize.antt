@@ -1,10 +1,10 @@
 -- The search (route_minimization.rs, `minimize_routes`). Assumes nothing.
 use Rattle.std.specs.Prelude.{cond}
-use Rattle.models.specs.Problem.{Problem}
-use Rattle.evaluation.specs.Check.{has_soft_windows}
-use Rattle.plan.specs.Plan.{Plan}
-use Rattle.local_search.specs.Rounds.{Result, reduce}
-use Rattle.ejection_pool.specs.Pool.{Allowance}
+use Rattle.pool_cost.specs.models.Problem.{Problem}
+use Rattle.pool_cost.specs.evaluation.Check.{has_soft_windows}
+use Rattle.pool_cost.specs.plan.Plan.{Plan}
+use Rattle.pool_cost.specs.local_search.Rounds.{Result, reduce}
+use Rattle.pool_cost.specs.ejection_pool.Pool.{Allowance}
 use Rattle.pool_cost.specs.Attempt.{attempt}
 
 -- `minimize_routes`: "If any place, the depot included, has window and penalty, the plan comes back as given, empty routes too, counts 0."

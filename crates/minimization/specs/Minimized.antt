@@ -2,19 +2,19 @@
 -- that the given routes and every feasible route have, and there are no more routes. Assumes nothing.
 use Rattle.std.specs.Prelude.{ℕ, ◌*◌, ◌≤◌, ◌<◌, ◌≡◌, refl, true, List, length}
 use Rattle.std.proofs.Common.{◌∙◌, le_refl, arith}
-use Rattle.laws.specs.All.{All}
-use Rattle.laws.specs.Keeps.{length_keep}
-use Rattle.laws.specs.Loops.{cond_rule}
-use Rattle.models.specs.Problem.{Problem}
-use Rattle.evaluation.specs.Check.{has_soft_windows}
-use Rattle.plan.specs.Plan.{Plan, non_empty, drop_empty, occurs}
-use Rattle.plan.specs.Dropped.{occurs_drop_empty}
-use Rattle.local_search.specs.Options.{Each}
-use Rattle.route_load.specs.Feasible.{feasible}
-use Rattle.local_search.specs.declared.rounds.Counts.{Counts}
-use Rattle.local_search.specs.Rounds.{Result, reduce}
-use Rattle.local_search.specs.Reduced.{Better, Bounded, triangle, Ended, reduce_ended}
-use Rattle.ejection_pool.specs.Pool.{Allowance}
+use Rattle.pool_cost.specs.laws.All.{All}
+use Rattle.pool_cost.specs.laws.Keeps.{length_keep}
+use Rattle.pool_cost.specs.laws.Loops.{cond_rule}
+use Rattle.pool_cost.specs.models.Problem.{Problem}
+use Rattle.pool_cost.specs.evaluation.Check.{has_soft_windows}
+use Rattle.pool_cost.specs.plan.Plan.{Plan, non_empty, drop_empty, occurs}
+use Rattle.pool_cost.specs.plan.Dropped.{occurs_drop_empty}
+use Rattle.pool_cost.specs.local_search.Options.{Each}
+use Rattle.pool_cost.specs.route_load.Feasible.{feasible}
+use Rattle.pool_cost.specs.local_search.declared.rounds.Counts.{Counts}
+use Rattle.pool_cost.specs.local_search.Rounds.{Result, reduce}
+use Rattle.pool_cost.specs.local_search.Reduced.{Better, Bounded, triangle, Ended, reduce_ended}
+use Rattle.pool_cost.specs.ejection_pool.Pool.{Allowance}
 use Rattle.pool_cost.specs.Attempt.{attempt}
 use Rattle.minimization.specs.Minimize.{minimize_routes}
 use Rattle.minimization.specs.Attempted.{attempt_bounded, attempt_better}

@@ -1,5 +1,5 @@
 -- The definitions of route minimisation and those below, opened at once. Assumes nothing.
-use Rattle.ejection_pool.specs.Opened.{opened as pool}
+use Rattle.pool_cost.specs.ejection_pool.Opened.{opened as pool}
 use Rattle.pool_cost.specs.Attempt.{if_cheaper, attempt}
 use Rattle.minimization.specs.Minimize.{minimize_routes}
 

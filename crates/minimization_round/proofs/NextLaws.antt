@@ -5,25 +5,25 @@ use mathlib.Core.List.{List}
 use mathlib.Core.Option.{some}
 use lib.ListN.{length, take}
 use lib.Ieee.{Float}
-use Rattle.models.specs.Problem.{Problem, of_distances}
-use Rattle.route_order.specs.declared.Pick.{Pick}
-use Rattle.route_order.specs.declared.Pick.TheVariants.{At}
-use Rattle.plan.specs.Plan.{split, total, padded, drop_zero}
-use Rattle.route_order.specs.Order.{next_pick, following}
-use Rattle.local_search.specs.declared.rounds.Counts.{Counts}
-use Rattle.local_search.specs.Planned.{Planned}
-use Rattle.route_cost.specs.Route.{cost}
-use Rattle.local_search.specs.Rounds.{Tried, try_each}
-use Rattle.local_search.specs.Search.{Refused, Taken, but_last}
-use Rattle.local_search.proofs.NextLaws.{in_use, next_kept, next_refused, next_accepted, next_taken}
-use Rattle.pool_attempt.specs.declared.Attempted.{Attempted}
-use Rattle.pool_attempt.specs.declared.Attempted.TheVariants.{Kept, Accepted}
-use Rattle.ejection_pool.specs.Pool.{Allowance}
-use Rattle.pool_cost.specs.Attempt.{attempt}
+use Rattle.minimization.specs.models.Problem.{Problem, of_distances}
+use Rattle.minimization.specs.route_order.declared.Pick.{Pick}
+use Rattle.minimization.specs.route_order.declared.Pick.TheVariants.{At}
+use Rattle.minimization.specs.plan.Plan.{split, total, padded, drop_zero}
+use Rattle.minimization.specs.route_order.Order.{next_pick, following}
+use Rattle.minimization.specs.local_search.declared.rounds.Counts.{Counts}
+use Rattle.minimization.specs.local_search.Planned.{Planned}
+use Rattle.minimization.specs.route_cost.Route.{cost}
+use Rattle.minimization.specs.local_search.Rounds.{Tried, try_each}
+use Rattle.minimization.specs.local_search.Search.{Refused, Taken, but_last}
+use Rattle.minimization.proofs.of_local_search.NextLaws.{in_use, next_kept, next_refused, next_accepted, next_taken}
+use Rattle.route_attempt.specs.pool_attempt.declared.Attempted.{Attempted}
+use Rattle.route_attempt.specs.pool_attempt.declared.Attempted.TheVariants.{Kept, Accepted}
+use Rattle.minimization.specs.ejection_pool.Pool.{Allowance}
+use Rattle.minimization.specs.pool_cost.Attempt.{attempt}
 use Rattle.minimization.specs.Attempted.{attempt_reduces}
-use Rattle.pool_attempt.specs.Judged.{tried}
+use Rattle.route_attempt.specs.pool_attempt.Judged.{tried}
 use Rattle.route_attempt.specs.Leaves.{Leaves}
-use Rattle.pool_cost.proofs.CostLaws.{cost_whole}
+use Rattle.minimization.proofs.of_pool_cost.CostLaws.{cost_whole}
 
 -- ---- the start of a round
 

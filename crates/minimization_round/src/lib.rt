@@ -3,24 +3,34 @@
 #![tactic(auto)]
 
 ghost use Rattle.std.specs.Prelude.{◌≡◌, ◌*◌, ◌<◌, ◌≤◌, length, take};
-ghost use Rattle.models.specs.Problem.{problem, of_distances};
-ghost use Rattle.plan.specs.Plan.{Lent, split, padded, drop_zero};
-ghost use Rattle.route_order.specs.Order.{following};
-ghost use Rattle.local_search.specs.Planned.{Planned};
-ghost use Rattle.route_cost.specs.Route.{cost};
-ghost use Rattle.local_search.specs.Rounds.{try_each};
-ghost use Rattle.local_search.specs.Search.{but_last, tried_next, NextLeaves};
-ghost use Rattle.pool_cost.specs.Attempt.{attempt};
-ghost use Rattle.ejection_pool.specs.Running.{allowance};
-ghost use Rattle.route_without.specs.Attempting.{Attempting};
+ghost use Rattle.minimization.specs.models.Problem.{problem, of_distances};
+ghost use Rattle.minimization.specs.plan.Plan.{Lent, split, padded, drop_zero};
+ghost use Rattle.minimization.specs.route_order.Order.{following};
+ghost use Rattle.minimization.specs.local_search.Planned.{Planned};
+ghost use Rattle.minimization.specs.route_cost.Route.{cost};
+ghost use Rattle.minimization.specs.local_search.Rounds.{try_each};
+ghost use Rattle.minimization.specs.local_search.Search.{but_last, tried_next, NextLeaves};
+ghost use Rattle.minimization.specs.pool_cost.Attempt.{attempt};
+ghost use Rattle.minimization.specs.ejection_pool.Running.{allowance};
+ghost use Rattle.route_attempt.specs.route_without.Attempting.{Attempting};
 
-use local_search::rounds::{Counts, Next};
-use models::vehicle::Vehicle;
-use plan_cost::plan_cost;
-use pool_attempt::Attempted;
+use minimization::LocalSearchNext as Next;
+
+use minimization::plan_cost_plan_cost as plan_cost;
+use route_attempt::Attempted;
 use route_attempt::attempt;
-use route_order::{Pick, next_pick};
-use route_removal::drop_empty;
+use minimization::next_pick;
+use route_attempt::drop_empty;
+
+// Of the crates below, passed on to those above.
+pub use minimization::Vehicle;
+pub use minimization::has_soft_windows;
+pub use minimization::Pick;
+pub use minimization::rounds;
+pub use minimization::constrained;
+pub use minimization::Counts;
+pub use minimization::LocalSearchNext;
+pub use minimization::Reduction;
 
 // What a round starts with: how many routes there are, and what they cost.
 #[derive(Clone, Copy)]

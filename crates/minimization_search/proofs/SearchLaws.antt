@@ -7,16 +7,16 @@ use native.Mathlib.Nat.{mul-le-mul_right}
 use native.Mathlib.Omega.{arith}
 use lib.ListN.{length, take}
 use lib.Ieee.{Float}
-use Rattle.models.specs.RouteLimits.{limits_of}
-use Rattle.models.specs.Problem.{Problem, Admitted}
-use Rattle.evaluation.specs.Check.{route_checks_needed}
-use Rattle.route_order.specs.declared.Pick.{Pick}
-use Rattle.local_search.specs.declared.rounds.Counts.{Counts}
-use Rattle.local_search.specs.Reduced.{triangle, triangle_is}
-use Rattle.local_search.proofs.SearchLaws.{Trying, trying_steps, trying_whole, trying_few, trying_planned}
-use Rattle.ejection_pool.specs.Pool.{Allowance}
-use Rattle.pool_cost.specs.Attempt.{attempt}
-use Rattle.route_without.specs.Attempting.{Attempting}
+use Rattle.minimization_round.specs.models.RouteLimits.{limits_of}
+use Rattle.minimization_round.specs.models.Problem.{Problem, Admitted}
+use Rattle.minimization_round.specs.evaluation.Check.{route_checks_needed}
+use Rattle.minimization_round.specs.route_order.declared.Pick.{Pick}
+use Rattle.minimization_round.specs.local_search.declared.rounds.Counts.{Counts}
+use Rattle.minimization_round.specs.local_search.Reduced.{triangle, triangle_is}
+use Rattle.minimization_round.proofs.of_local_search.SearchLaws.{Trying, trying_steps, trying_whole, trying_few, trying_planned}
+use Rattle.minimization_round.specs.ejection_pool.Pool.{Allowance}
+use Rattle.minimization_round.specs.pool_cost.Attempt.{attempt}
+use Rattle.minimization_round.specs.route_without.Attempting.{Attempting}
 
 -- a call of 256 routes counts fewer steps than this
 most_steps : (limit : ℕ) → limit ≤ 65535 → limit * triangle 256 ≤ 65535 * 32896

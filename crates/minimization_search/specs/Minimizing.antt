@@ -1,8 +1,8 @@
 -- What the search asks for. Assumes nothing.
 use Rattle.std.specs.Prelude.{ℕ, ◌≤◌, ◌<◌, ◌≡◌, List, length, Float}
-use Rattle.models.specs.Problem.{Problem, Admitted}
-use Rattle.plan.specs.Plan.{split, total}
-use Rattle.local_search.specs.Planned.{Planned}
+use Rattle.minimization_round.specs.models.Problem.{Problem, Admitted}
+use Rattle.minimization_round.specs.plan.Plan.{split, total}
+use Rattle.minimization_round.specs.local_search.Planned.{Planned}
 
 -- a search over a plan that fills both slices
 pub record Searching (p : Problem) (tape : List ℕ) (limit : ℕ) (lengths stops work : List ℕ) (cells : List Float) : Type 0 where

@@ -2,20 +2,28 @@
 #![tactic(auto)]
 
 ghost use Rattle.std.specs.Prelude.{◌≡◌, length};
-ghost use Rattle.models.specs.RouteLimits.{limits_of};
-ghost use Rattle.models.specs.Problem.{problem};
-ghost use Rattle.evaluation.specs.Check.{route_checks_needed};
-ghost use Rattle.plan.specs.Plan.{split};
-ghost use Rattle.local_search.specs.Rounds.{reduce};
-ghost use Rattle.local_search.specs.Search.{Answers};
-ghost use Rattle.pool_cost.specs.Attempt.{attempt};
-ghost use Rattle.ejection_pool.specs.Running.{allowance};
+ghost use Rattle.minimization_round.specs.models.RouteLimits.{limits_of};
+ghost use Rattle.minimization_round.specs.models.Problem.{problem};
+ghost use Rattle.minimization_round.specs.evaluation.Check.{route_checks_needed};
+ghost use Rattle.minimization_round.specs.plan.Plan.{split};
+ghost use Rattle.minimization_round.specs.local_search.Rounds.{reduce};
+ghost use Rattle.minimization_round.specs.local_search.Search.{Answers};
+ghost use Rattle.minimization_round.specs.pool_cost.Attempt.{attempt};
+ghost use Rattle.minimization_round.specs.ejection_pool.Running.{allowance};
 ghost use Rattle.minimization_search.specs.Minimizing.{Searching};
 
-use local_search::rounds::{Counts, Next, Reduction};
+use minimization_round::LocalSearchNext as Next;
 use minimization_round::{begin, try_next};
-use models::vehicle::Vehicle;
-use route_order::Pick;
+
+use minimization_round::Pick;
+
+// Of the crates below, passed on to those above.
+pub use minimization_round::Vehicle;
+pub use minimization_round::has_soft_windows;
+pub use minimization_round::rounds;
+pub use minimization_round::constrained;
+pub use minimization_round::Counts;
+pub use minimization_round::Reduction;
 
 // Rounds of attempts, begun again from the shortest route as soon as one is accepted.
 pub fn search(

@@ -11,9 +11,9 @@ use lib.Dec.{T, eqb, leb, ltb}
 use lib.Ieee.{Float, nan, inf, fin, binary64, lt, le, fits}
 use lib.IntN.{ℤ, pos, negsuc, nat_abs}
 use borrow.Author.Tests.{eqb-true, leb-true, ltb-true, ltb-false}
-use Rattle.floats.specs.Binary64.{1e12, is_sign_negative}
-use Rattle.floats.specs.Inputs.{Amount, amount_of}
-use Rattle.laws.specs.Searches.{and_first, and_second, every, every_at}
+use Rattle.float_functions.specs.floats.Binary64.{1e12, is_sign_negative}
+use Rattle.float_functions.specs.floats.Inputs.{Amount, amount_of}
+use Rattle.float_functions.specs.laws.Searches.{and_first, and_second, every, every_at}
 use Rattle.models.specs.declared.vehicle.Limit.{Limit}
 use Rattle.models.specs.declared.vehicle.Limit.TheVariants.{None as NoLimit, At as LimitAt}
 use Rattle.models.specs.declared.vehicle.Rest.{Rest}

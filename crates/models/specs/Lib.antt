@@ -11,3 +11,6 @@ pub mod RouteLimits
 pub mod Problem
 -- what makes a problem valid: rows 1 to 4 of the refusal table
 pub mod Valid
+-- crates below, passed on to those above
+pub use Rattle.float_functions.specs.laws as laws
+pub use Rattle.float_functions.specs.floats as floats

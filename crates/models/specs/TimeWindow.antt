@@ -1,7 +1,7 @@
 -- A time window (models/customer.rs, `TimeWindow`), for every f64. Assumes nothing.
 use Rattle.std.specs.Prelude.{Bool, true, false, cond, ◌&&◌, Float}
 use Rattle.std.specs.Float.Ieee.{lt, le}
-use Rattle.floats.specs.Binary64.{◌⊖◌, 0f, is_finite, max}
+use Rattle.float_functions.specs.floats.Binary64.{◌⊖◌, 0f, is_finite, max}
 use Rattle.models.specs.declared.customer.TimeWindow.{TimeWindow}
 use Rattle.models.specs.declared.customer.Window.{Window}
 use Rattle.models.specs.declared.customer.Window.TheVariants.{None as NoWindow, Is as WindowIs}

@@ -3,8 +3,8 @@ use Rattle.std.specs.Prelude.{ℕ, ◌*◌, List, [], Bool, true, false, cond, n
 use Rattle.std.specs.Int.Signed.{lt_z, le_z}
 use Rattle.std.specs.Float.{nan, inf, fin}
 use Rattle.std.specs.Float.Ieee.{lt, le}
-use Rattle.floats.specs.Binary64.{0f, 1e-6, 1e12}
-use Rattle.laws.specs.Searches.{every}
+use Rattle.float_functions.specs.floats.Binary64.{0f, 1e-6, 1e12}
+use Rattle.float_functions.specs.laws.Searches.{every}
 use Rattle.models.specs.declared.vehicle.Limit.{Limit}
 use Rattle.models.specs.declared.vehicle.Limit.TheVariants.{None as NoLimit, At as LimitAt}
 use Rattle.models.specs.declared.vehicle.Rest.{Rest}

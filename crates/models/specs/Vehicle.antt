@@ -1,7 +1,7 @@
 -- The vehicle (models/vehicle.rs). Assumes nothing.
 use Rattle.std.specs.Prelude.{cond, Float}
 use Rattle.std.specs.Float.Ieee.{lt}
-use Rattle.floats.specs.Binary64.{◌⊘◌, 0f}
+use Rattle.float_functions.specs.floats.Binary64.{◌⊘◌, 0f}
 use Rattle.models.specs.declared.vehicle.VehicleBreak.{VehicleBreak}
 use Rattle.models.specs.declared.vehicle.Vehicle.{Vehicle}
 

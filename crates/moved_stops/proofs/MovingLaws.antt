@@ -8,17 +8,17 @@ use mathlib.Core.Option.{Option, none, some}
 use lib.ListN.{length, get_or, take}
 use lib.Seq.{length-take-le}
 use lib.Ieee.{Float}
-use Rattle.floats.specs.Binary64.{0f}
-use Rattle.laws.specs.All.{all_get, all_of}
-use Rattle.laws.specs.Edits.{erase, all_erase, length_erase}
-use Rattle.laws.specs.Sorts.{smallest, least_inside}
-use Rattle.models.specs.Problem.{Problem, Stops}
-use Rattle.plan.specs.Plan.{split, total}
+use Rattle.stop_moves.specs.floats.Binary64.{0f}
+use Rattle.stop_moves.specs.laws.All.{all_get, all_of}
+use Rattle.stop_moves.specs.laws.Edits.{erase, all_erase, length_erase}
+use Rattle.stop_moves.specs.laws.Sorts.{smallest, least_inside}
+use Rattle.stop_moves.specs.models.Problem.{Problem, Stops}
+use Rattle.stop_moves.specs.plan.Plan.{split, total}
 use Rattle.stop_moves.specs.declared.Sum.{Sum}
 use Rattle.stop_moves.specs.declared.Sum.TheVariants.{Nothing, At}
-use Rattle.elimination_moves.specs.Eliminate.{Moved, move_stop, move_all}
-use Rattle.reinsertion_candidates.specs.Asked.{Asked, Room}
-use Rattle.elimination_moves.specs.Largest.{larger, first_largest, in_order, in_order_more}
+use Rattle.stop_moves.specs.elimination_moves.Eliminate.{Moved, move_stop, move_all}
+use Rattle.stop_moves.specs.reinsertion_candidates.Asked.{Asked, Room}
+use Rattle.stop_moves.specs.elimination_moves.Largest.{larger, first_largest, in_order, in_order_more}
 use Rattle.stop_moves.specs.Moves.{so_far, held_by, move_on, move_on_more, move_on_none, move_on_end, Waiting, Grown, Kept}
 
 -- ---- the next stop

@@ -2,17 +2,31 @@
 #![tactic(auto)]
 
 ghost use Rattle.std.specs.Prelude.{◌≡◌, ◌+◌, ◌-◌, ◌<◌, get_or, take};
-ghost use Rattle.laws.specs.Edits.{erase};
-ghost use Rattle.models.specs.Problem.{problem};
-ghost use Rattle.plan.specs.Plan.{split, total};
-ghost use Rattle.elimination_moves.specs.Eliminate.{move_stop, move_all};
-ghost use Rattle.elimination_moves.specs.Largest.{first_largest, in_order};
+ghost use Rattle.stop_moves.specs.laws.Edits.{erase};
+ghost use Rattle.stop_moves.specs.models.Problem.{problem};
+ghost use Rattle.stop_moves.specs.plan.Plan.{split, total};
+ghost use Rattle.stop_moves.specs.elimination_moves.Eliminate.{move_stop, move_all};
+ghost use Rattle.stop_moves.specs.elimination_moves.Largest.{first_largest, in_order};
 ghost use Rattle.stop_moves.specs.Moves.{so_far, held_by, Waiting, Kept};
 
-use elimination_moves::take_largest;
-use models::vehicle::Vehicle;
-use reinsertion_candidates::Move;
-use stop_moves::{Sum, move_stop};
+use stop_moves::take_largest;
+
+use stop_moves::Move;
+use stop_moves::move_stop;
+
+// Of the crates below, passed on to those above.
+pub use stop_moves::is_finite;
+pub use stop_moves::Vehicle;
+pub use stop_moves::has_soft_windows;
+pub use stop_moves::Pick;
+pub use stop_moves::next_pick;
+pub use stop_moves::route_cost_gain_floor;
+pub use stop_moves::constrained;
+pub use stop_moves::Counts;
+pub use stop_moves::LocalSearchNext;
+pub use stop_moves::Reduction;
+pub use stop_moves::worth;
+pub use stop_moves::Sum;
 
 // The first stop with the largest demand of the m that are left goes to its place.
 fn move_next(

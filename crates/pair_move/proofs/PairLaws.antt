@@ -6,12 +6,12 @@ use mathlib.Core.Path.{◌≡◌, refl, sym, ◌∙◌}
 use mathlib.Core.Bool.{true, false}
 use mathlib.Core.List.{List, [], ◌∷◌}
 use lib.ListN.{length, get_or}
-use Rattle.models.specs.Problem.{Problem}
-use Rattle.plan.specs.Plan.{Holds, Lent, split, route, total, non_empty}
-use Rattle.plan.specs.Slices.{length_split, length_route}
-use Rattle.perturbation.specs.Perturb.{both_non_empty, try_move, move_between}
-use Rattle.perturbation.specs.Parts.{Pair}
-use Rattle.perturbation.specs.Moves.{Between}
+use Rattle.drawn_moves.specs.models.Problem.{Problem}
+use Rattle.drawn_moves.specs.plan.Plan.{Holds, Lent, split, route, total, non_empty}
+use Rattle.drawn_moves.specs.plan.Slices.{length_split, length_route}
+use Rattle.drawn_moves.specs.perturbation.Perturb.{both_non_empty, try_move, move_between}
+use Rattle.drawn_moves.specs.perturbation.Parts.{Pair}
+use Rattle.drawn_moves.specs.perturbation.Moves.{Between}
 
 module _ (ls s : List ℕ) (a b : ℕ) (w : Pair (split ls s) a b) where
   pub pair_first : a < length ls

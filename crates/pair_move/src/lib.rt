@@ -2,15 +2,21 @@
 #![tactic(auto)]
 
 ghost use Rattle.std.specs.Prelude.{◌≡◌, ◌≤◌, length};
-ghost use Rattle.models.specs.RouteLimits.{limits_of};
-ghost use Rattle.models.specs.Problem.{problem, Admitted};
-ghost use Rattle.evaluation.specs.Check.{route_checks_needed};
-ghost use Rattle.plan.specs.Plan.{Holds, split, total};
-ghost use Rattle.perturbation.specs.Perturb.{move_between};
-ghost use Rattle.perturbation.specs.Parts.{Movable, Pair};
+ghost use Rattle.drawn_moves.specs.models.RouteLimits.{limits_of};
+ghost use Rattle.drawn_moves.specs.models.Problem.{problem, Admitted};
+ghost use Rattle.drawn_moves.specs.evaluation.Check.{route_checks_needed};
+ghost use Rattle.drawn_moves.specs.plan.Plan.{Holds, split, total};
+ghost use Rattle.drawn_moves.specs.perturbation.Perturb.{move_between};
+ghost use Rattle.drawn_moves.specs.perturbation.Parts.{Movable, Pair};
 
 use drawn_moves::try_move;
-use models::vehicle::Vehicle;
+
+// Of the crates below, passed on to those above.
+pub use drawn_moves::Vehicle;
+pub use drawn_moves::eject;
+pub use drawn_moves::draw;
+pub use drawn_moves::other_than;
+
 
 // A move between routes a and b, from draw d on: where one of them is empty there is none. Returns the draws of the call so far.
 pub fn move_between(

@@ -2,11 +2,11 @@
 use Rattle.std.specs.Prelude.{ℕ, ◌≡◌, refl, [], ◌∷◌, replicate, pos, Float}
 use Rattle.std.specs.Float.{binary64}
 use Rattle.std.specs.Float.Ieee.{of_int}
-use Rattle.models.specs.declared.vehicle.Limit.TheVariants.{None as NoLimit}
-use Rattle.models.specs.declared.vehicle.Rest.TheVariants.{None as NoRest}
-use Rattle.models.specs.declared.vehicle.Vehicle.{Vehicle}
-use Rattle.models.specs.Problem.{Problem, problem}
-use Rattle.plan.specs.Plan.{Plan}
+use Rattle.ejection_search.specs.models.declared.vehicle.Limit.TheVariants.{None as NoLimit}
+use Rattle.ejection_search.specs.models.declared.vehicle.Rest.TheVariants.{None as NoRest}
+use Rattle.ejection_search.specs.models.declared.vehicle.Vehicle.{Vehicle}
+use Rattle.ejection_search.specs.models.Problem.{Problem, problem}
+use Rattle.ejection_search.specs.plan.Plan.{Plan}
 use Rattle.perturbation.specs.Perturb.{move}
 use Rattle.perturbation.specs.Opened.{opened}
 

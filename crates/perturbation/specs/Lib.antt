@@ -9,3 +9,8 @@ pub mod Moves
 pub mod Opened
 -- moves computed on a small plan
 pub mod Examples
+-- crates below, passed on to those above
+pub use Rattle.ejection_search.specs.models as models
+pub use Rattle.ejection_search.specs.evaluation as evaluation
+pub use Rattle.ejection_search.specs.route_load as route_load
+pub use Rattle.ejection_search.specs.local_search as local_search

@@ -1,9 +1,9 @@
 -- The parts of a move that have a function of their own. Assumes nothing.
 use Rattle.std.specs.Prelude.{ℕ, suc, ◌+◌, ◌<◌, ◌^◌, ◌≡◌, List, ◌++◌, Bool, ◌&&◌, length, take, drop}
-use Rattle.models.specs.Problem.{Problem}
-use Rattle.plan.specs.Plan.{Plan, Lent, split, route, non_empty}
-use Rattle.route_load.specs.Feasible.{feasible}
-use Rattle.local_search.specs.Planned.{Planned}
+use Rattle.ejection_search.specs.models.Problem.{Problem}
+use Rattle.ejection_search.specs.plan.Plan.{Plan, Lent, split, route, non_empty}
+use Rattle.ejection_search.specs.route_load.Feasible.{feasible}
+use Rattle.ejection_search.specs.local_search.Planned.{Planned}
 use Rattle.perturbation.specs.Perturb.{draw, try_exchange, try_tails}
 
 -- the front of route a up to i, and behind it the tail of route b from j

@@ -1,9 +1,9 @@
 -- The random moves after an ejection (route_minimization.rs, `Pool::perturb`), with document 01's stand-in for `Rng`. Assumes nothing.
 use Rattle.std.specs.Prelude.{ℕ, suc, ◌+◌, ◌-◌, ◌%◌, List, Bool, cond, ◌&&◌, length, get_or, leb, ltb, eqb}
-use Rattle.laws.specs.Loops.{loop}
-use Rattle.models.specs.Problem.{Problem}
-use Rattle.plan.specs.Plan.{Plan, route, exchange_stops, exchange_tails, non_empty}
-use Rattle.route_load.specs.Feasible.{feasible}
+use Rattle.ejection_search.specs.laws.Loops.{loop}
+use Rattle.ejection_search.specs.models.Problem.{Problem}
+use Rattle.ejection_search.specs.plan.Plan.{Plan, route, exchange_stops, exchange_tails, non_empty}
+use Rattle.ejection_search.specs.route_load.Feasible.{feasible}
 
 -- ---- draws
 

@@ -9,8 +9,8 @@ use mir.Syntax.{w32}
 use mir.Val.{SFits, to_z, of_z}
 use mir.Facts.{to_z-of_z}
 use borrow.Author.Tests.{le-leb, lt-leb}
-use Rattle.laws.specs.Picks.{picks}
-use Rattle.models.specs.Valid.{demand_passes}
+use Rattle.problem_checks.specs.laws.Picks.{picks}
+use Rattle.problem_checks.specs.models.Valid.{demand_passes}
 
 -- ---- flags and what is asked of a place besides
 

@@ -1,6 +1,6 @@
 -- Where a route lies among the stops, and a stop put in or taken out, in the form that the proofs of the code want. Assumes nothing.
 use Rattle.std.proofs.Common.{◌≡◌, ℕ, ◌+◌, ◌-◌, ◌<◌, ◌≤◌, List, ◌++◌, length, get_or, take, drop, set, sym, refl, ap, ◌∙◌, zero-le, arith, w16, w64, Fits}
-use Rattle.laws.specs.Edits.{insert_at, cut, cut_one}
+use Rattle.cell_exchange.specs.laws.Edits.{insert_at, cut, cut_one}
 use Rattle.plan.specs.Plan.{Holds, Lent, HasPosition, HasStop, split, route, total, offset, put_in, take_out}
 use Rattle.plan.specs.Slices.{offset_more, offset_all, route_within, stop_split, position_within, position_route, stop_within, stop_route}
 use Rattle.plan.specs.Routes.{put_in_slices, take_out_slices}

@@ -6,9 +6,9 @@ use Rattle.std.proofs.Math.Nat.{sub_self}
 use Rattle.std.proofs.lemmas.List.{length-replicate, length-map}
 use Rattle.std.proofs.Math.Seq.{take-append_seam}
 use Rattle.std.proofs.Math.Dec.{eqb-suc-zero}
-use Rattle.laws.specs.All.{All, all_nil, all_cons}
-use Rattle.laws.specs.Keeps.{keep, keep_append, keep_map, keep_same, keep_none}
-use Rattle.laws.specs.Counts.{count}
+use Rattle.cell_exchange.specs.laws.All.{All, all_nil, all_cons}
+use Rattle.cell_exchange.specs.laws.Keeps.{keep, keep_append, keep_map, keep_same, keep_none}
+use Rattle.cell_exchange.specs.laws.Counts.{count}
 use Rattle.plan.specs.Plan.{Plan, split, flat, lengths_of, total, padded, written, non_empty, drop_empty, drop_zero, occurs}
 use Rattle.plan.specs.Slices.{split_is, split_own, lengths_split, split_append, total_append, total_lengths, flat_free}
 

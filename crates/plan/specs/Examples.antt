@@ -1,8 +1,8 @@
 -- The definitions computed on small plans. Assumes nothing.
 use Rattle.std.specs.Prelude.{◌≡◌, [], ◌∷◌, refl}
-use Rattle.laws.specs.Edits.{insert_at, erase}
-use Rattle.laws.specs.Keeps.{keep}
-use Rattle.laws.specs.Counts.{count, one_if}
+use Rattle.cell_exchange.specs.laws.Edits.{insert_at, erase}
+use Rattle.cell_exchange.specs.laws.Keeps.{keep}
+use Rattle.cell_exchange.specs.laws.Counts.{count, one_if}
 use Rattle.plan.specs.Plan.{Plan, split, flat, lengths_of, padded, put_in, take_out, exchange_stops, exchange_tails, non_empty, drop_empty, occurs}
 
 -- three routes, the second of them empty

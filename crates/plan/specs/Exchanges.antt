@@ -7,9 +7,9 @@ use Rattle.std.proofs.Common.{◌∙◌, append_assoc, le_of_suc-le-suc, not-suc
 use Rattle.std.proofs.Math.ListN.{length-append, length-set, length-drop, take-append-drop}
 use Rattle.std.proofs.lemmas.List.{length-map, set_comm}
 use Rattle.std.proofs.Math.Seq.{set-append_left, get_or-set_same, get_or-set_other, set-set, set-get_or, length-take-le, take_at, drop_at}
-use Rattle.laws.specs.All.{All, all_set}
-use Rattle.laws.specs.Exchanges.{swap, length_swap, swap_parts, swap_parts_of, split_at_two, set_two, part}
-use Rattle.laws.specs.Counts.{count, count_append, count_parts, count_set}
+use Rattle.cell_exchange.specs.laws.All.{All, all_set}
+use Rattle.cell_exchange.specs.laws.Exchanges.{swap, length_swap, swap_parts, swap_parts_of, split_at_two, set_two, part}
+use Rattle.cell_exchange.specs.laws.Counts.{count, count_append, count_parts, count_set}
 use Rattle.plan.specs.Plan.{Plan, route, split, flat, lengths_of, total, offset, exchange_stops, exchange_tails, occurs, Holds, HasPosition, HasStop}
 use Rattle.plan.specs.Slices.{split_is, split_own, flat_split_all, lengths_split, flat_split, flat_free, length_split, length_route, lengths_get, lengths_take, total_lengths, total_set, flat_append, route_within, stop_split}
 use Rattle.plan.specs.Routes.{lengths_set, number_set, occurs_set}

@@ -12,3 +12,5 @@ pub mod Exchanges
 pub mod Dropped
 -- a plan kept in work cells
 pub mod Saved
+-- crates below, passed on to those above
+pub use Rattle.cell_exchange.specs.laws as laws

@@ -1,8 +1,8 @@
 -- A plan, in place of `Vec<Vec<usize>>`: its routes, the two slices that stand for them, and the edits that the searches make. Assumes nothing.
 use Rattle.std.specs.Prelude.{◌≡◌, ℕ, ◌+◌, ◌-◌, ◌<◌, ◌≤◌, Bool, true, false, not, List, [], ◌∷◌, ◌++◌, map, length, take, drop, replicate, ◌==◌, slice_index, slice_index_or, slice_set}
-use Rattle.laws.specs.Edits.{insert_at, erase}
-use Rattle.laws.specs.Keeps.{keep}
-use Rattle.laws.specs.Counts.{count}
+use Rattle.cell_exchange.specs.laws.Edits.{insert_at, erase}
+use Rattle.cell_exchange.specs.laws.Keeps.{keep}
+use Rattle.cell_exchange.specs.laws.Counts.{count}
 
 -- the routes in plan order, each its stops in order
 abbrev pub Plan : Type 0

@@ -6,9 +6,9 @@ use Rattle.std.proofs.Common.{ap, sym, ◌∙◌, append_assoc, le_of_suc-le-suc
 use Rattle.std.proofs.Math.ListN.{length-set}
 use Rattle.std.proofs.lemmas.List.{length-map, take-append-le, drop-append-le}
 use Rattle.std.proofs.Math.Seq.{take-append-add, drop-append-add, get_or-set_same, get_or-set_other}
-use Rattle.laws.specs.All.{All, all_set}
-use Rattle.laws.specs.Edits.{insert_at, erase, cut, length_insert_at, length_erase}
-use Rattle.laws.specs.Counts.{count, count_append, count_insert_at, count_erase}
+use Rattle.cell_exchange.specs.laws.All.{All, all_set}
+use Rattle.cell_exchange.specs.laws.Edits.{insert_at, erase, cut, length_insert_at, length_erase}
+use Rattle.cell_exchange.specs.laws.Counts.{count, count_append, count_insert_at, count_erase}
 use Rattle.plan.specs.Plan.{Plan, route, split, flat, lengths_of, total, offset, put_in, take_out, occurs, Holds, HasPosition, HasStop}
 use Rattle.plan.specs.Slices.{split_is, lengths_split, flat_split, length_split, length_route, lengths_get, lengths_take, lengths_drop, lengths_append, total_lengths, total_set, total_erase, route_within}
 

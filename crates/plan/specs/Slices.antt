@@ -3,8 +3,8 @@
 use Rattle.std.specs.Prelude.{◌≡◌, ℕ, zero, suc, ◌+◌, ◌-◌, ◌<◌, ◌≤◌, List, [], ◌∷◌, ◌++◌, length, take, drop, slice_index, slice_index_or, slice_range, slice_set, refl}
 use Rattle.std.proofs.Common.{zero-le, ap, sym, ◌∙◌, subst, append_assoc, append-nil, le_of_suc-le-suc, not-suc-le-zero, le_refl, add-one, arith, length-append, length-drop, take-append-drop, take_all, length-take-le, take-add, take-take, drop-drop, get_or-take, get_or-drop}
 use Rattle.std.proofs.Math.Seq.{take-append_seam, drop-append_seam}
-use Rattle.laws.specs.All.{All, all_nil, all_cons, all_append, all_take, all_drop}
-use Rattle.laws.specs.Edits.{erase}
+use Rattle.cell_exchange.specs.laws.All.{All, all_nil, all_cons, all_append, all_take, all_drop}
+use Rattle.cell_exchange.specs.laws.Edits.{erase}
 use Rattle.plan.specs.Plan.{Plan, route, split, flat, lengths_of, total, offset, Holds, Lent, HasPosition, HasStop}
 
 -- ---- there and back

@@ -4,6 +4,14 @@
 ghost use Rattle.std.specs.Prelude.{◌≡◌, ◌+◌, ◌-◌, ◌<◌, ◌≤◌, length, slice_index};
 ghost use Rattle.plan.specs.Plan.{Holds, Lent, HasPosition, HasStop, split, route, total, offset, put_in, take_out};
 
+// Of the crates below, passed on to those above.
+pub use cell_exchange::clear;
+pub use cell_exchange::copy_part;
+pub use cell_exchange::cut;
+pub use cell_exchange::insert_at;
+pub use cell_exchange::swap;
+pub use cell_exchange::swap_parts;
+
 // Where route k begins among the stops.
 pub fn offset(lengths: &[u16], k: usize) -> usize
     requires { (k ≤ length lengths.now) × (total lengths.now < 65536) }
@@ -26,7 +34,7 @@ pub fn put_in(lengths: &mut [u16], stops: &mut [u16], k: usize, pos: usize, c: u
 {
     let used = offset(lengths, lengths.len());
     let p = offset(lengths, k) + pos;
-    cell_shifts::insert_at(stops, used, p, c);
+    cell_exchange::insert_at(stops, used, p, c);
     lengths[k] += 1;
 }
 
@@ -40,7 +48,7 @@ pub fn take_out(lengths: &mut [u16], stops: &mut [u16], k: usize, pos: usize) ->
     let used = offset(lengths, lengths.len());
     let p = offset(lengths, k) + pos;
     let c = stops[p];
-    cell_shifts::cut(stops, used, p, 1);
+    cell_exchange::cut(stops, used, p, 1);
     lengths[k] -= 1;
     c
 }

@@ -6,7 +6,7 @@ use native.Mathlib.Nat.{zero-add}
 use native.Mathlib.Omega.{arith}
 use lib.ListN.{length, take, drop, drop_of_length-le}
 use lib.Seq.{take-length, paste, take_at, drop_at, drop-drop}
-use Rattle.plan.specs.Plan.{saved}
+use Rattle.route_removal.specs.plan.Plan.{saved}
 
 pub saved_done : (ls s w : List ℕ) {w₁ w₂ : List ℕ} → length ls + length s ≤ length w → w₁ ≡ paste w 0 (drop 0 ls) (length ls)
     → w₂ ≡ paste w₁ (length ls) (drop 0 s) (length s) → w₂ ≡ saved ls s w

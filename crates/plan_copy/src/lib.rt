@@ -2,7 +2,10 @@
 #![tactic(auto)]
 
 ghost use Rattle.std.specs.Prelude.{◌≡◌, ◌+◌, ◌≤◌, length, take, drop};
-ghost use Rattle.plan.specs.Plan.{saved};
+ghost use Rattle.route_removal.specs.plan.Plan.{saved};
+
+// Of the crates below, passed on to those above.
+pub use route_removal::drop_empty;
 
 // Both slices are kept in the first work cells.
 pub fn save(work: &mut [u16], lengths: &[u16], stops: &[u16])
@@ -10,8 +13,8 @@ pub fn save(work: &mut [u16], lengths: &[u16], stops: &[u16])
     ensures { work.new ≡ saved lengths.now stops.now work.old }
 {
     let count = lengths.len();
-    cells::copy_part(work, 0, lengths, 0, count);
-    cells::copy_part(work, count, stops, 0, stops.len());
+    route_removal::copy_part(work, 0, lengths, 0, count);
+    route_removal::copy_part(work, count, stops, 0, stops.len());
 }
 
 // Both slices become what is kept in the first work cells.
@@ -21,6 +24,6 @@ pub fn restore(lengths: &mut [u16], stops: &mut [u16], work: &[u16])
     ensures stops { stops.new ≡ take (length stops.old) (drop (length lengths.old) work.now) }
 {
     let count = lengths.len();
-    cells::copy_part(lengths, 0, work, 0, count);
-    cells::copy_part(stops, 0, work, count, stops.len());
+    route_removal::copy_part(lengths, 0, work, 0, count);
+    route_removal::copy_part(stops, 0, work, count, stops.len());
 }

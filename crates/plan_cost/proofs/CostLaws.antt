@@ -5,14 +5,14 @@ use mathlib.Core.List.{List, []}
 use lib.ListN.{length, get_or, take, drop}
 use lib.Ieee.{Float}
 use borrow.Author.Rules.{rules}
-use Rattle.floats.specs.Binary64.{◌⊕◌, 0f}
-use Rattle.laws.specs.All.{All}
-use Rattle.laws.specs.Loops.{foldl, fold_more, fold_end}
-use Rattle.models.specs.declared.vehicle.Vehicle.{Vehicle}
-use Rattle.models.specs.Vehicle.{fixed_cost_in_distance}
-use Rattle.models.specs.Problem.{matrix, of_distances, Stops}
-use Rattle.plan.specs.Plan.{Lent, split}
-use Rattle.plan.specs.Slices.{length_split}
+use Rattle.route_cost.specs.floats.Binary64.{◌⊕◌, 0f}
+use Rattle.route_cost.specs.laws.All.{All}
+use Rattle.route_cost.specs.laws.Loops.{foldl, fold_more, fold_end}
+use Rattle.route_cost.specs.models.declared.vehicle.Vehicle.{Vehicle}
+use Rattle.route_cost.specs.models.Vehicle.{fixed_cost_in_distance}
+use Rattle.route_cost.specs.models.Problem.{matrix, of_distances, Stops}
+use Rattle.route_cost.specs.plan.Plan.{Lent, split}
+use Rattle.route_cost.specs.plan.Slices.{length_split}
 use Rattle.route_cost.proofs.VisitLaws.{Visiting, visit_start, part_is, visit_more, visit_laws}
 use Rattle.route_cost.specs.Route.{route_distance, cost}
 

@@ -2,13 +2,19 @@
 #![tactic(auto)]
 
 ghost use Rattle.std.specs.Prelude.{◌≡◌, [], ◌*◌, ◌-◌, ◌<◌, ◌≤◌, length, take, drop};
-ghost use Rattle.laws.specs.All.{All};
-ghost use Rattle.models.specs.Problem.{matrix, of_distances, Stops};
-ghost use Rattle.plan.specs.Plan.{Lent, split};
+ghost use Rattle.route_cost.specs.laws.All.{All};
+ghost use Rattle.route_cost.specs.models.Problem.{matrix, of_distances, Stops};
+ghost use Rattle.route_cost.specs.plan.Plan.{Lent, split};
 ghost use Rattle.route_cost.specs.Route.{route_distance, cost};
 
-use models::vehicle::Vehicle;
+
 use route_cost::route_distance;
+
+// Of the crates below, passed on to those above.
+pub use route_cost::abs;
+pub use route_cost::Vehicle;
+pub use route_cost::has_soft_windows;
+pub use route_cost::copy_part;
 
 // The distance of the route that stands from `at` to `end` among the stops.
 fn part_distance(

@@ -3,11 +3,11 @@ use Prim.Native.Nat.{ℕ, zero, suc}
 use mathlib.Core.Path.{◌≡◌, refl, sym, ap, ◌∙◌}
 use mathlib.Core.Option.{Option}
 use lib.ListN.{length}
-use Rattle.plan.specs.Plan.{Slices}
-use Rattle.local_search.specs.declared.rounds.Counts.{Counts}
-use Rattle.local_search.specs.declared.rounds.Reduction.{Reduction}
-use Rattle.local_search.specs.Rounds.{Result}
-use Rattle.local_search.specs.Search.{Answers}
+use Rattle.minimization.specs.plan.Plan.{Slices}
+use Rattle.minimization.specs.local_search.declared.rounds.Counts.{Counts}
+use Rattle.minimization.specs.local_search.declared.rounds.Reduction.{Reduction}
+use Rattle.minimization.specs.local_search.Rounds.{Result}
+use Rattle.minimization.specs.local_search.Search.{Answers}
 use Rattle.entry.specs.Given.{numbered}
 use Rattle.planner.specs.Calls.{refused, answered, Reply, reply}
 

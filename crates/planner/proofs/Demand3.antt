@@ -10,18 +10,18 @@ use mathlib.Core.Option.{Option, none, some}
 use native.Mathlib.Nat.{le_refl, le_trans, mul-le-mul_left, add-mul, mul_comm, mul-div_cancel}
 use native.Mathlib.Omega.{arith}
 use lib.ListN.{length, replicate, length-map}
-use Rattle.laws.specs.All.{All, all_nil, all_cons, all_append}
-use Rattle.laws.specs.Keeps.{keep_passes, all_keep}
-use Rattle.laws.specs.Counts.{count}
-use Rattle.models.specs.Problem.{Problem}
-use Rattle.plan.specs.Plan.{Plan, Slices, flat, lengths_of, padded, written, non_empty, drop_empty, occurs}
-use Rattle.plan.specs.Slices.{length_split, flat_split_all}
-use Rattle.plan.specs.Dropped.{length_padded, drop_empty_padded, split_written, total_written}
-use Rattle.route_load.specs.Feasible.{Sound}
-use Rattle.route_load.specs.RouteLaws.{feasible_sound}
-use Rattle.local_search.specs.Rounds.{Result}
-use Rattle.local_search.specs.Reduced.{triangle, triangle_is, triangle_mono}
-use Rattle.ejection_pool.specs.Pool.{Allowance}
+use Rattle.lateness_bound.specs.laws.All.{All, all_nil, all_cons, all_append}
+use Rattle.lateness_bound.specs.laws.Keeps.{keep_passes, all_keep}
+use Rattle.lateness_bound.specs.laws.Counts.{count}
+use Rattle.lateness_bound.specs.models.Problem.{Problem}
+use Rattle.minimization.specs.plan.Plan.{Plan, Slices, flat, lengths_of, padded, written, non_empty, drop_empty, occurs}
+use Rattle.minimization.specs.plan.Slices.{length_split, flat_split_all}
+use Rattle.minimization.specs.plan.Dropped.{length_padded, drop_empty_padded, split_written, total_written}
+use Rattle.minimization.specs.route_load.Feasible.{Sound}
+use Rattle.minimization.specs.route_load.RouteLaws.{feasible_sound}
+use Rattle.minimization.specs.local_search.Rounds.{Result}
+use Rattle.minimization.specs.local_search.Reduced.{triangle, triangle_is, triangle_mono}
+use Rattle.minimization.specs.ejection_pool.Pool.{Allowance}
 use Rattle.minimization.specs.Minimize.{minimize_routes}
 use Rattle.minimization.specs.Minimized.{Minimized, minimize_keeps}
 use Rattle.minimization.specs.Falls.{minimize_falls}

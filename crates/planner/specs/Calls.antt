@@ -1,21 +1,21 @@
 -- The public calls: each is refused by the table or answers. Assumes nothing.
 use Rattle.std.specs.Prelude.{ℕ, List, Bool, length, Float}
 use Rattle.std.proofs.Math.Option.{Option, none, some}
-use Rattle.models.specs.declared.customer.Window.{Window}
-use Rattle.models.specs.declared.vehicle.VehicleBreak.{VehicleBreak}
-use Rattle.models.specs.TimeWindow.{time_window_new}
-use Rattle.models.specs.RouteLimits.{limits_of}
-use Rattle.models.specs.Problem.{Problem, depot}
-use Rattle.break_clock.specs.declared.route_eval.Eval.{Eval}
-use Rattle.break_clock.specs.Schedule.{schedule}
-use Rattle.evaluation.specs.Eval.{route_eval, effective_cost}
-use Rattle.evaluation.specs.Check.{route_feasible}
+use Rattle.lateness_bound.specs.models.declared.customer.Window.{Window}
+use Rattle.lateness_bound.specs.models.declared.vehicle.VehicleBreak.{VehicleBreak}
+use Rattle.lateness_bound.specs.models.TimeWindow.{time_window_new}
+use Rattle.lateness_bound.specs.models.RouteLimits.{limits_of}
+use Rattle.lateness_bound.specs.models.Problem.{Problem, depot}
+use Rattle.lateness_bound.specs.break_clock.declared.route_eval.Eval.{Eval}
+use Rattle.lateness_bound.specs.break_clock.Schedule.{schedule}
+use Rattle.lateness_bound.specs.evaluation.Eval.{route_eval, effective_cost}
+use Rattle.lateness_bound.specs.evaluation.Check.{route_feasible}
 use Rattle.lateness_bound.specs.Bound.{lateness_bound}
-use Rattle.plan.specs.Plan.{Plan, Slices, split, written}
-use Rattle.route_cost.specs.Route.{route_distance, gain_floor}
-use Rattle.local_search.specs.declared.rounds.Reduction.{Reduction}
-use Rattle.local_search.specs.Rounds.{Result}
-use Rattle.ejection_pool.specs.Pool.{Allowance}
+use Rattle.minimization.specs.plan.Plan.{Plan, Slices, split, written}
+use Rattle.minimization.specs.route_cost.Route.{route_distance, gain_floor}
+use Rattle.minimization.specs.local_search.declared.rounds.Reduction.{Reduction}
+use Rattle.minimization.specs.local_search.Rounds.{Result}
+use Rattle.minimization.specs.ejection_pool.Pool.{Allowance}
 use Rattle.minimization.specs.Minimize.{minimize_routes}
 use Rattle.elimination_moves.specs.Eliminate.{eliminate_routes}
 use Rattle.entry.specs.Table.{Work, refusal}

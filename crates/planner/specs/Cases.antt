@@ -3,19 +3,19 @@
 use Rattle.std.specs.Prelude.{ℕ, ◌≡◌, refl, Bool, true, false, List, [], ◌∷◌, map, pos, Float}
 use Rattle.std.specs.Float.{binary64}
 use Rattle.std.specs.Float.Ieee.{of_int}
-use Rattle.models.specs.declared.vehicle.Limit.{Limit}
-use Rattle.models.specs.declared.vehicle.Limit.TheVariants.{None as NoLimit, At as LimitAt}
-use Rattle.models.specs.declared.vehicle.Rest.{Rest}
-use Rattle.models.specs.declared.vehicle.Rest.TheVariants.{None as NoRest, Break}
-use Rattle.models.specs.declared.vehicle.Vehicle.{Vehicle}
-use Rattle.models.specs.Problem.{Problem, problem}
-use Rattle.break_clock.specs.declared.route_eval.Eval.{Eval}
-use Rattle.break_clock.specs.declared.route_eval.Eval.TheVariants.{Infeasible, Feasible}
-use Rattle.labels.specs.declared.Taken.{Taken}
-use Rattle.labels.specs.declared.Taken.TheVariants.{No as NotTaken, At as TakenAt}
-use Rattle.break_clock.specs.RouteEval.{priced_distance}
-use Rattle.plan.specs.Plan.{Slices}
-use Rattle.route_load.specs.Feasible.{load, fits}
+use Rattle.lateness_bound.specs.models.declared.vehicle.Limit.{Limit}
+use Rattle.lateness_bound.specs.models.declared.vehicle.Limit.TheVariants.{None as NoLimit, At as LimitAt}
+use Rattle.lateness_bound.specs.models.declared.vehicle.Rest.{Rest}
+use Rattle.lateness_bound.specs.models.declared.vehicle.Rest.TheVariants.{None as NoRest, Break}
+use Rattle.lateness_bound.specs.models.declared.vehicle.Vehicle.{Vehicle}
+use Rattle.lateness_bound.specs.models.Problem.{Problem, problem}
+use Rattle.lateness_bound.specs.break_clock.declared.route_eval.Eval.{Eval}
+use Rattle.lateness_bound.specs.break_clock.declared.route_eval.Eval.TheVariants.{Infeasible, Feasible}
+use Rattle.lateness_bound.specs.labels.declared.Taken.{Taken}
+use Rattle.lateness_bound.specs.labels.declared.Taken.TheVariants.{No as NotTaken, At as TakenAt}
+use Rattle.lateness_bound.specs.break_clock.RouteEval.{priced_distance}
+use Rattle.minimization.specs.plan.Plan.{Slices}
+use Rattle.minimization.specs.route_load.Feasible.{load, fits}
 use Rattle.entry.specs.Table.{Work}
 use Rattle.planner.specs.Calls.{Answer, refused, answered, Reply, public_route_eval}
 use Rattle.planner.specs.Run.{Call, minimise, eliminate, run}

@@ -1,5 +1,5 @@
 -- Every definition of the project, opened at once. Assumes nothing.
-use Rattle.models.specs.Valid.{sizes_pass, is_amount, values_pass, windows_pass, valid}
+use Rattle.lateness_bound.specs.models.Valid.{sizes_pass, is_amount, values_pass, windows_pass, valid}
 use Rattle.lateness_bound.specs.Bound.{later_window, dearer_penalty, latest_window, dearest_penalty, slowest, lateness_bound}
 use Rattle.entry.specs.Table.{bad_lengths, stop_passes, stops_pass, too_few, table, first_applying, refusal}
 use Rattle.planner.specs.Calls.{public_route_feasible, public_route_eval, public_effective_cost, public_schedule, public_route_distance, public_lateness_bound, public_gain_floor, reply, public_minimise, public_eliminate}

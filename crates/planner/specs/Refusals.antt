@@ -3,12 +3,12 @@ use Rattle.std.specs.Prelude.{ℕ, ◌≡◌, refl, List, [], ◌∷◌, pos, Fl
 use Rattle.std.proofs.Math.Option.{Option, none, some}
 use Rattle.std.specs.Float.{nan, binary64}
 use Rattle.std.specs.Float.Ieee.{of_int, of_bits}
-use Rattle.floats.specs.Binary64.{1e12}
-use Rattle.models.specs.declared.vehicle.Limit.TheVariants.{None as NoLimit}
-use Rattle.models.specs.declared.vehicle.Rest.TheVariants.{None as NoRest}
-use Rattle.models.specs.declared.vehicle.Vehicle.{Vehicle}
-use Rattle.models.specs.Problem.{Problem, problem}
-use Rattle.plan.specs.Plan.{Slices}
+use Rattle.lateness_bound.specs.floats.Binary64.{1e12}
+use Rattle.lateness_bound.specs.models.declared.vehicle.Limit.TheVariants.{None as NoLimit}
+use Rattle.lateness_bound.specs.models.declared.vehicle.Rest.TheVariants.{None as NoRest}
+use Rattle.lateness_bound.specs.models.declared.vehicle.Vehicle.{Vehicle}
+use Rattle.lateness_bound.specs.models.Problem.{Problem, problem}
+use Rattle.minimization.specs.plan.Plan.{Slices}
 use Rattle.entry.specs.Table.{Work, refusal}
 use Rattle.entry.specs.Given.{minimise_inputs}
 use Rattle.planner.specs.Opened.{opened}

@@ -3,14 +3,14 @@ use Rattle.std.specs.Prelude.{ℕ, ◌+◌, ◌*◌, ◌/◌, ◌≤◌, ◌<◌
 use mathlib.Core.List.{List, [], ◌∷◌, Memᴰ}
 use Rattle.std.proofs.Math.Option.{none, some}
 use Rattle.std.specs.Float.Ieee.{lt}
-use Rattle.laws.specs.All.{All}
-use Rattle.models.specs.Problem.{Problem}
-use Rattle.plan.specs.Plan.{Plan, Slices, drop_empty, occurs}
-use Rattle.route_cost.specs.Route.{cost}
-use Rattle.route_load.specs.Feasible.{Sound}
-use Rattle.local_search.specs.declared.rounds.Counts.{Counts}
-use Rattle.local_search.specs.declared.rounds.Reduction.{Reduction}
-use Rattle.ejection_pool.specs.Pool.{Allowance}
+use Rattle.lateness_bound.specs.laws.All.{All}
+use Rattle.lateness_bound.specs.models.Problem.{Problem}
+use Rattle.minimization.specs.plan.Plan.{Plan, Slices, drop_empty, occurs}
+use Rattle.minimization.specs.route_cost.Route.{cost}
+use Rattle.minimization.specs.route_load.Feasible.{Sound}
+use Rattle.minimization.specs.local_search.declared.rounds.Counts.{Counts}
+use Rattle.minimization.specs.local_search.declared.rounds.Reduction.{Reduction}
+use Rattle.minimization.specs.ejection_pool.Pool.{Allowance}
 use Rattle.entry.specs.Table.{Work}
 use Rattle.entry.specs.Given.{entry}
 use Rattle.planner.specs.Calls.{Answer, refused, answered, Reply, plan_in, public_minimise, public_eliminate}

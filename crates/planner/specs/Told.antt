@@ -1,7 +1,7 @@
 -- What the code's enum says, as the answer of a call that changes a plan, and the slices that a call is lent. Assumes nothing.
 use Rattle.std.specs.Prelude.{ℕ, ◌≡◌, List}
-use Rattle.plan.specs.Plan.{Slices}
-use Rattle.local_search.specs.declared.rounds.Reduction.{Reduction}
+use Rattle.minimization.specs.plan.Plan.{Slices}
+use Rattle.minimization.specs.local_search.declared.rounds.Reduction.{Reduction}
 use Rattle.entry.specs.Table.{Work}
 use Rattle.planner.specs.declared.calls.Replied.{Replied}
 use Rattle.planner.specs.declared.calls.Replied.TheVariants.{Refused as NotReplied, Answered as RepliedAs}

@@ -1,5 +1,5 @@
 // What a call that changes a plan answers.
-use local_search::rounds::Reduction;
+use minimization::Reduction;
 
 // How many routes are left and what the call counted, or the number of the refusal.
 #[derive(Clone, Copy)]

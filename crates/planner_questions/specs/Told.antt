@@ -1,6 +1,6 @@
 -- What the enums of the code say, as answers of the questions. Assumes nothing.
 use Rattle.std.specs.Prelude.{Bool, Float}
-use Rattle.break_clock.specs.declared.route_eval.Eval.{Eval}
+use Rattle.refusals.specs.break_clock.declared.route_eval.Eval.{Eval}
 use Rattle.planner.specs.Calls.{Answer, refused, answered}
 use Rattle.planner_questions.specs.declared.Checked.{Checked}
 use Rattle.planner_questions.specs.declared.Checked.TheVariants.{Refused as NotChecked, Answered as CheckedAs}

@@ -3,15 +3,34 @@
 #![tactic(auto)]
 
 ghost use Rattle.std.specs.Prelude.{◌≡◌};
-ghost use Rattle.models.specs.Problem.{problem};
+ghost use Rattle.refusals.specs.models.Problem.{problem};
 ghost use Rattle.planner.specs.Calls.{public_route_feasible, public_schedule, public_route_distance};
 ghost use Rattle.planner_questions.specs.Told.{checked_told, evaluated_told, number_told};
 
-use break_clock::route_eval::Eval;
-use evaluation::check;
-use models::limits::RouteLimits;
-use models::vehicle::{Vehicle, VehicleBreak};
-use refusals::calls::{route_refusal, schedule_refusal};
+
+use refusals::evaluation_check as check;
+
+
+use refusals::calls::schedule_refusal;
+
+// Of the crates below, passed on to those above.
+pub use refusals::TimeWindow;
+pub use refusals::Window;
+pub use refusals::RouteLimits;
+pub use refusals::Limit;
+pub use refusals::Rest;
+pub use refusals::Vehicle;
+pub use refusals::VehicleBreak;
+pub use refusals::Taken;
+pub use refusals::Eval;
+pub use refusals::RouteEval;
+pub use planner::route_worth_effective_cost;
+pub use planner::route_worth_route_eval;
+pub use planner::bound;
+pub use refusals::route_cost_gain_floor;
+pub use refusals::calls::problem_refusal;
+pub use refusals::calls::route_refusal;
+pub use planner::calls::Replied;
 
 // The answer yes or no, or the number of the refusal.
 #[derive(Clone, Copy)]
@@ -96,7 +115,7 @@ pub fn route_distance(
     if r != 0 {
         return Number::Refused(r);
     }
-    let distance = route_cost::route_distance(route, vehicle.depot_id, n, distances);
+    let distance = refusals::route_cost_route_distance(route, vehicle.depot_id, n, distances);
     Number::Answered(distance)
 }
 
@@ -124,7 +143,7 @@ pub fn schedule(
     if r != 0 {
         return Evaluated::Refused(r); // not scheduled
     }
-    let timed = break_schedule::schedule(
+    let timed = refusals::break_schedule_schedule(
         route,
         vehicle.depot_id,
         rest,

@@ -7,23 +7,23 @@ use mathlib.Core.Option.{Option, some}
 use native.Mathlib.Omega.{arith}
 use lib.ListN.{length}
 use lib.Ieee.{Float, lt}
-use Rattle.floats.specs.Binary64.{◌⊖◌, ◌⊗◌, 1e-12, abs}
-use Rattle.laws.specs.All.{All}
-use Rattle.models.specs.Problem.{Problem, of_distances, Stops}
-use Rattle.plan.specs.Plan.{Plan}
-use Rattle.local_search.specs.declared.rounds.Counts.{Counts}
-use Rattle.local_search.specs.Options.{Each, each_found, bind, then_some}
-use Rattle.local_search.specs.Planned.{Planned, planned_stops}
-use Rattle.route_cost.specs.Route.{cost}
-use Rattle.local_search.specs.Rounds.{Tried}
-use Rattle.pool_turns.specs.declared.Emptied.{Emptied}
-use Rattle.pool_turns.specs.declared.Emptied.TheVariants.{Failed, Done}
+use Rattle.pool_cost.specs.floats.Binary64.{◌⊖◌, ◌⊗◌, 1e-12, abs}
+use Rattle.pool_cost.specs.laws.All.{All}
+use Rattle.pool_cost.specs.models.Problem.{Problem, of_distances, Stops}
+use Rattle.pool_cost.specs.plan.Plan.{Plan}
+use Rattle.pool_cost.specs.local_search.declared.rounds.Counts.{Counts}
+use Rattle.pool_cost.specs.local_search.Options.{Each, each_found, bind, then_some}
+use Rattle.pool_cost.specs.local_search.Planned.{Planned, planned_stops}
+use Rattle.pool_cost.specs.route_cost.Route.{cost}
+use Rattle.pool_cost.specs.local_search.Rounds.{Tried}
+use Rattle.pool_emptying.specs.pool_turns.declared.Emptied.{Emptied}
+use Rattle.pool_emptying.specs.pool_turns.declared.Emptied.TheVariants.{Failed, Done}
 use Rattle.pool_attempt.specs.declared.Attempted.TheVariants.{Kept, Accepted}
-use Rattle.ejection_pool.specs.Pool.{Allowance, State, Turn, stop, more, turn, at_limit, run_pool}
-use Rattle.ejection_pool.specs.Turns.{Then, turn_rule, pool_rule}
-use Rattle.ejection_pool.specs.Pooled.{Pooled, pooled_planned, pooled_more}
-use Rattle.ejection_pool.specs.Running.{Running, state}
-use Rattle.pool_turns.specs.Ends.{said}
+use Rattle.pool_cost.specs.ejection_pool.Pool.{Allowance, State, Turn, stop, more, turn, at_limit, run_pool}
+use Rattle.pool_cost.specs.ejection_pool.Turns.{Then, turn_rule, pool_rule}
+use Rattle.pool_cost.specs.ejection_pool.Pooled.{Pooled, pooled_planned, pooled_more}
+use Rattle.pool_cost.specs.ejection_pool.Running.{Running, state}
+use Rattle.pool_emptying.specs.pool_turns.Ends.{said}
 use Rattle.pool_cost.proofs.CostLaws.{cheaper_tested}
 use Rattle.pool_attempt.specs.Judged.{tried, judged}
 

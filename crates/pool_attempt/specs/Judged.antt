@@ -1,10 +1,10 @@
 -- What the attempt at a route answers, as the code says it. Assumes nothing.
 use Rattle.std.proofs.Math.Option.{none, some}
 use Rattle.std.specs.Prelude.{Float}
-use Rattle.models.specs.Problem.{Problem}
-use Rattle.plan.specs.Plan.{Plan}
-use Rattle.local_search.specs.Options.{bind}
-use Rattle.local_search.specs.Rounds.{Tried}
+use Rattle.pool_cost.specs.models.Problem.{Problem}
+use Rattle.pool_cost.specs.plan.Plan.{Plan}
+use Rattle.pool_cost.specs.local_search.Options.{bind}
+use Rattle.pool_cost.specs.local_search.Rounds.{Tried}
 use Rattle.pool_attempt.specs.declared.Attempted.{Attempted}
 use Rattle.pool_attempt.specs.declared.Attempted.TheVariants.{Kept, Accepted}
 use Rattle.pool_cost.specs.Attempt.{if_cheaper}

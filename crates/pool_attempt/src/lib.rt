@@ -3,17 +3,21 @@
 #![tactic(auto)]
 
 ghost use Rattle.std.specs.Prelude.{◌≡◌, replicate};
-ghost use Rattle.models.specs.Problem.{problem};
-ghost use Rattle.plan.specs.Plan.{Lent, split};
-ghost use Rattle.ejection_pool.specs.Pool.{run_pool};
-ghost use Rattle.ejection_pool.specs.Running.{Running, state, allowance};
+ghost use Rattle.pool_cost.specs.models.Problem.{problem};
+ghost use Rattle.pool_cost.specs.plan.Plan.{Lent, split};
+ghost use Rattle.pool_cost.specs.ejection_pool.Pool.{run_pool};
+ghost use Rattle.pool_cost.specs.ejection_pool.Running.{Running, state, allowance};
 ghost use Rattle.pool_attempt.specs.Judged.{tried, judged};
 
-use local_search::rounds::Counts;
-use models::vehicle::Vehicle;
+
+
 use pool_cost::is_cheaper;
 use pool_emptying::empty_pool;
-use pool_turns::Emptied;
+use pool_emptying::Emptied;
+
+// Of the crates below, passed on to those above.
+pub use pool_cost::Vehicle;
+pub use pool_cost::Counts;
 
 // How an attempt ends: the plan is kept as it was, or the one without the route is accepted; with the counts of the call so far.
 #[derive(Clone, Copy)]

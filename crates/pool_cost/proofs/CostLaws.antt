@@ -2,12 +2,12 @@
 use mathlib.Core.Path.{◌≡◌, refl, ap, ◌∙◌}
 use mathlib.Core.Bool.{Bool}
 use lib.Ieee.{Float, lt}
-use Rattle.floats.specs.Binary64.{◌⊖◌, ◌⊗◌, 1e-12, abs}
-use Rattle.models.specs.Problem.{Problem, of_distances}
-use Rattle.plan.specs.Plan.{Plan}
-use Rattle.local_search.specs.Options.{then_some}
-use Rattle.route_cost.specs.Route.{cost}
-use Rattle.local_search.proofs.ReadLaws.{cost_any}
+use Rattle.plan_cost.specs.floats.Binary64.{◌⊖◌, ◌⊗◌, 1e-12, abs}
+use Rattle.plan_cost.specs.models.Problem.{Problem, of_distances}
+use Rattle.plan_cost.specs.plan.Plan.{Plan}
+use Rattle.ejection_pool.specs.local_search.Options.{then_some}
+use Rattle.plan_cost.specs.route_cost.Route.{cost}
+use Rattle.ejection_pool.proofs.of_local_search.ReadLaws.{cost_any}
 use Rattle.pool_cost.specs.Attempt.{if_cheaper}
 
 pub cheaper_is : (cost v before a : Float) → v ≡ cost → a ≡ abs before → lt v (before ⊖ 1e-12 ⊗ a) ≡ lt cost (before ⊖ 1e-12 ⊗ abs before)

@@ -2,14 +2,14 @@
 use Rattle.std.specs.Prelude.{ℕ, Float}
 use Rattle.std.proofs.Math.Option.{Option}
 use Rattle.std.specs.Float.Ieee.{lt}
-use Rattle.floats.specs.Binary64.{◌⊖◌, ◌⊗◌, 1e-12, abs}
-use Rattle.laws.specs.Edits.{erase}
-use Rattle.models.specs.Problem.{Problem}
-use Rattle.plan.specs.Plan.{Plan, route}
-use Rattle.local_search.specs.Options.{bind, then_some}
-use Rattle.route_cost.specs.Route.{cost}
-use Rattle.local_search.specs.declared.rounds.Counts.{Counts}
-use Rattle.local_search.specs.Rounds.{Tried}
+use Rattle.plan_cost.specs.floats.Binary64.{◌⊖◌, ◌⊗◌, 1e-12, abs}
+use Rattle.plan_cost.specs.laws.Edits.{erase}
+use Rattle.plan_cost.specs.models.Problem.{Problem}
+use Rattle.plan_cost.specs.plan.Plan.{Plan, route}
+use Rattle.ejection_pool.specs.local_search.Options.{bind, then_some}
+use Rattle.plan_cost.specs.route_cost.Route.{cost}
+use Rattle.ejection_pool.specs.local_search.declared.rounds.Counts.{Counts}
+use Rattle.ejection_pool.specs.local_search.Rounds.{Tried}
 use Rattle.ejection_pool.specs.Pool.{Allowance, empty_into}
 
 -- "Accept if cost(rest) < before − 1e-12 × |before|"

@@ -4,15 +4,28 @@
 
 ghost use Rattle.std.specs.Prelude.{◌≡◌, ◌*◌, ◌<◌, ◌≤◌, length};
 ghost use Rattle.std.specs.Float.Ieee.{lt};
-ghost use Rattle.floats.specs.Binary64.{◌⊖◌, ◌⊗◌, 1e-12, abs};
-ghost use Rattle.models.specs.Problem.{of_distances, Stops};
-ghost use Rattle.laws.specs.All.{All};
-ghost use Rattle.plan.specs.Plan.{Lent, split};
-ghost use Rattle.route_cost.specs.Route.{cost};
+ghost use Rattle.plan_cost.specs.floats.Binary64.{◌⊖◌, ◌⊗◌, 1e-12, abs};
+ghost use Rattle.plan_cost.specs.models.Problem.{of_distances, Stops};
+ghost use Rattle.plan_cost.specs.laws.All.{All};
+ghost use Rattle.plan_cost.specs.plan.Plan.{Lent, split};
+ghost use Rattle.plan_cost.specs.route_cost.Route.{cost};
 
-use float_functions::abs;
-use models::vehicle::Vehicle;
+use plan_cost::abs;
+
 use plan_cost::plan_cost;
+
+// Of the crates below, passed on to those above.
+pub use plan_cost::Vehicle;
+pub use plan_cost::has_soft_windows;
+pub use plan_cost::copy_part;
+pub use ejection_pool::Pick;
+pub use ejection_pool::next_pick;
+pub use plan_cost::plan_cost as plan_cost_plan_cost;
+pub use ejection_pool::rounds;
+pub use ejection_pool::constrained;
+pub use ejection_pool::Counts;
+pub use ejection_pool::LocalSearchNext;
+pub use ejection_pool::Reduction;
 
 // Whether a plan costs less than `before` by more than the tolerance.
 pub fn is_cheaper(

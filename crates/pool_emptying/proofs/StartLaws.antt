@@ -7,11 +7,11 @@ use native.Mathlib.Nat.{le_of_suc-le-suc, not-suc-le-zero}
 use native.Mathlib.Omega.{arith}
 use lib.ListN.{take, replicate}
 use lib.Ieee.{Float}
-use Rattle.models.specs.Problem.{Problem}
-use Rattle.local_search.specs.declared.rounds.Counts.{Counts}
-use Rattle.local_search.specs.Rounds.{Tried}
-use Rattle.ejection_pool.specs.Pool.{Allowance, run_pool}
-use Rattle.ejection_pool.specs.Running.{Running, state}
+use Rattle.pool_turns.specs.models.Problem.{Problem}
+use Rattle.pool_turns.specs.local_search.declared.rounds.Counts.{Counts}
+use Rattle.pool_turns.specs.local_search.Rounds.{Tried}
+use Rattle.pool_turns.specs.ejection_pool.Pool.{Allowance, run_pool}
+use Rattle.pool_turns.specs.ejection_pool.Running.{Running, state}
 
 front_ones : (n m : ℕ) → n ≤ m → take {A = ℕ} n (replicate m 1) ≡ replicate n 1
 front_ones zero m h = refl

@@ -2,15 +2,18 @@
 #![tactic(auto)]
 
 ghost use Rattle.std.specs.Prelude.{◌≡◌, replicate};
-ghost use Rattle.models.specs.Problem.{problem};
-ghost use Rattle.plan.specs.Plan.{Lent, split};
-ghost use Rattle.ejection_pool.specs.Pool.{run_pool};
-ghost use Rattle.ejection_pool.specs.Running.{Running, state, allowance};
+ghost use Rattle.pool_turns.specs.models.Problem.{problem};
+ghost use Rattle.pool_turns.specs.plan.Plan.{Lent, split};
+ghost use Rattle.pool_turns.specs.ejection_pool.Pool.{run_pool};
+ghost use Rattle.pool_turns.specs.ejection_pool.Running.{Running, state, allowance};
 ghost use Rattle.pool_turns.specs.Ends.{said};
 
-use local_search::rounds::Counts;
-use models::vehicle::Vehicle;
-use pool_turns::{Emptied, empty_into};
+use pool_turns::Counts;
+use pool_turns::Vehicle;
+use pool_turns::empty_into;
+
+// Of the crates below, passed on to those above.
+pub use pool_turns::Emptied;
 
 // The pool is emptied into the routes, with a failure counted for every place at the start.
 pub fn empty_pool(

@@ -11,20 +11,20 @@ use lib.Dec.{eqb, leb}
 use lib.Ieee.{Float}
 use mir.Syntax.{w32, w64}
 use mir.Val.{Fits}
-use Rattle.laws.specs.Counts.{count, one_if}
-use Rattle.models.specs.Problem.{Problem}
-use Rattle.plan.specs.Plan.{Plan, Holds, Lent, split, flat, total, occurs, put_in}
-use Rattle.route_cost.specs.declared.Insertion.{Insertion}
-use Rattle.local_search.specs.declared.rounds.Counts.{Counts}
-use Rattle.local_search.specs.Planned.{Planned}
-use Rattle.insertion.specs.Cheapest.{cheapest}
-use Rattle.ejection.specs.Asked.{Counted}
-use Rattle.ejection.specs.Eject.{eject}
-use Rattle.ejection_made.specs.Made.{stack, stack_pop}
+use Rattle.forced_insertion.specs.laws.Counts.{count, one_if}
+use Rattle.forced_insertion.specs.models.Problem.{Problem}
+use Rattle.forced_insertion.specs.plan.Plan.{Plan, Holds, Lent, split, flat, total, occurs, put_in}
+use Rattle.forced_insertion.specs.route_cost.declared.Insertion.{Insertion}
+use Rattle.forced_insertion.specs.local_search.declared.rounds.Counts.{Counts}
+use Rattle.forced_insertion.specs.local_search.Planned.{Planned}
+use Rattle.forced_insertion.specs.insertion.Cheapest.{cheapest}
+use Rattle.forced_insertion.specs.ejection.Asked.{Counted}
+use Rattle.forced_insertion.specs.ejection.Eject.{eject}
+use Rattle.forced_insertion.specs.ejection_made.Made.{stack, stack_pop}
 use Rattle.forced_insertion.specs.declared.Turn.TheVariants.{Stuck, More}
-use Rattle.ejection_pool.specs.Pool.{State, Turn, after_cheapest, after_eject}
-use Rattle.ejection_pool.specs.Pooled.{Pooled, pooled_planned, raised}
-use Rattle.ejection_pool.specs.Running.{Running, Forcing, state, is_there, put_best, one_more}
+use Rattle.forced_insertion.specs.ejection_pool.Pool.{State, Turn, after_cheapest, after_eject}
+use Rattle.forced_insertion.specs.ejection_pool.Pooled.{Pooled, pooled_planned, raised}
+use Rattle.forced_insertion.specs.ejection_pool.Running.{Running, Forcing, state, is_there, put_best, one_more}
 use Rattle.forced_insertion.specs.Turned.{as_turn}
 use Rattle.forced_insertion.proofs.PoolLaws.{stack_length, held_number}
 

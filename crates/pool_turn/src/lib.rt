@@ -3,17 +3,23 @@
 #![tactic(auto)]
 
 ghost use Rattle.std.specs.Prelude.{◌≡◌, ◌+◌, ◌-◌, ◌<◌, ◌^◌, get_or};
-ghost use Rattle.models.specs.Problem.{problem};
-ghost use Rattle.plan.specs.Plan.{Lent, split};
-ghost use Rattle.insertion.specs.Cheapest.{cheapest};
-ghost use Rattle.ejection_made.specs.Made.{stack};
-ghost use Rattle.ejection_pool.specs.Pool.{after_cheapest};
-ghost use Rattle.ejection_pool.specs.Running.{Running, state};
+ghost use Rattle.forced_insertion.specs.models.Problem.{problem};
+ghost use Rattle.forced_insertion.specs.plan.Plan.{Lent, split};
+ghost use Rattle.forced_insertion.specs.insertion.Cheapest.{cheapest};
+ghost use Rattle.forced_insertion.specs.ejection_made.Made.{stack};
+ghost use Rattle.forced_insertion.specs.ejection_pool.Pool.{after_cheapest};
+ghost use Rattle.forced_insertion.specs.ejection_pool.Running.{Running, state};
 ghost use Rattle.forced_insertion.specs.Turned.{as_turn};
 
-use forced_insertion::{Turn, force, place};
-use local_search::rounds::Counts;
-use models::vehicle::Vehicle;
+use forced_insertion::force;
+use forced_insertion::place;
+
+// Of the crates below, passed on to those above.
+pub use forced_insertion::Vehicle;
+pub use forced_insertion::Counts;
+pub use forced_insertion::Turn;
+
+
 
 // One turn: the stop on top of the pool is popped and goes to its cheapest place, or, with one failure more, in for others.
 pub fn one_turn(

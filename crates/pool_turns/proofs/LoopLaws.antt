@@ -7,20 +7,20 @@ use mathlib.Core.Bool.{Bool, true, false}
 use mathlib.Core.List.{List, [], ◌∷◌}
 use lib.ListN.{length, get_or}
 use lib.Ieee.{Float}
-use Rattle.models.specs.Problem.{Problem}
-use Rattle.plan.specs.Plan.{Plan, Lent, split}
-use Rattle.local_search.specs.declared.rounds.Counts.{Counts}
-use Rattle.local_search.specs.Rounds.{Tried}
-use Rattle.insertion.specs.Cheapest.{cheapest}
-use Rattle.ejection_made.specs.Made.{stack, stack_pop}
-use Rattle.forced_insertion.specs.declared.Turn.{Turn as Ended}
-use Rattle.forced_insertion.specs.declared.Turn.TheVariants.{Stuck, More}
+use Rattle.pool_turn.specs.models.Problem.{Problem}
+use Rattle.pool_turn.specs.plan.Plan.{Plan, Lent, split}
+use Rattle.pool_turn.specs.local_search.declared.rounds.Counts.{Counts}
+use Rattle.pool_turn.specs.local_search.Rounds.{Tried}
+use Rattle.pool_turn.specs.insertion.Cheapest.{cheapest}
+use Rattle.pool_turn.specs.ejection_made.Made.{stack, stack_pop}
+use Rattle.pool_turn.specs.forced_insertion.declared.Turn.{Turn as Ended}
+use Rattle.pool_turn.specs.forced_insertion.declared.Turn.TheVariants.{Stuck, More}
 use Rattle.pool_turns.specs.declared.Emptied.TheVariants.{Failed, Done}
-use Rattle.ejection_pool.specs.Pool.{Allowance, State, Turn, stop, more, failed, turn, after_cheapest, run_pool}
-use Rattle.ejection_pool.specs.Turns.{pool_more, pool_stop, emptied, at_the_limit, clocked, goes_on}
-use Rattle.ejection_pool.specs.Pooled.{Pooled, pooled_fewer, pooled_more}
-use Rattle.ejection_pool.specs.Running.{Running, state, allowance}
-use Rattle.forced_insertion.specs.Turned.{as_turn}
+use Rattle.pool_turn.specs.ejection_pool.Pool.{Allowance, State, Turn, stop, more, failed, turn, after_cheapest, run_pool}
+use Rattle.pool_turn.specs.ejection_pool.Turns.{pool_more, pool_stop, emptied, at_the_limit, clocked, goes_on}
+use Rattle.pool_turn.specs.ejection_pool.Pooled.{Pooled, pooled_fewer, pooled_more}
+use Rattle.pool_turn.specs.ejection_pool.Running.{Running, state, allowance}
+use Rattle.pool_turn.specs.forced_insertion.Turned.{as_turn}
 use Rattle.pool_turns.specs.Ends.{said}
 
 -- ---- the loop

@@ -1,7 +1,7 @@
 -- How an attempt to empty the pool ends, as the code says it. Assumes nothing.
 use Rattle.std.proofs.Math.Option.{none, some}
-use Rattle.plan.specs.Plan.{Plan}
-use Rattle.local_search.specs.Rounds.{Tried}
+use Rattle.pool_turn.specs.plan.Plan.{Plan}
+use Rattle.pool_turn.specs.local_search.Rounds.{Tried}
 use Rattle.pool_turns.specs.declared.Emptied.{Emptied}
 use Rattle.pool_turns.specs.declared.Emptied.TheVariants.{Failed, Done}
 

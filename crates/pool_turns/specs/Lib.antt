@@ -1,3 +1,8 @@
 -- The turns of the pool.
 -- how an attempt ends
 pub mod Ends
+-- crates below, passed on to those above
+pub use Rattle.pool_turn.specs.models as models
+pub use Rattle.pool_turn.specs.plan as plan
+pub use Rattle.pool_turn.specs.local_search as local_search
+pub use Rattle.pool_turn.specs.ejection_pool as ejection_pool

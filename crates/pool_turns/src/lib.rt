@@ -3,16 +3,20 @@
 #![tactic(auto)]
 
 ghost use Rattle.std.specs.Prelude.{◌≡◌};
-ghost use Rattle.models.specs.Problem.{problem};
-ghost use Rattle.plan.specs.Plan.{Lent, split};
-ghost use Rattle.ejection_pool.specs.Pool.{run_pool};
-ghost use Rattle.ejection_pool.specs.Running.{Running, state, allowance};
+ghost use Rattle.pool_turn.specs.models.Problem.{problem};
+ghost use Rattle.pool_turn.specs.plan.Plan.{Lent, split};
+ghost use Rattle.pool_turn.specs.ejection_pool.Pool.{run_pool};
+ghost use Rattle.pool_turn.specs.ejection_pool.Running.{Running, state, allowance};
 ghost use Rattle.pool_turns.specs.Ends.{said};
 
-use forced_insertion::Turn;
-use local_search::rounds::Counts;
-use models::vehicle::Vehicle;
+use pool_turn::Turn;
+
+
 use pool_turn::one_turn;
+
+// Of the crates below, passed on to those above.
+pub use pool_turn::Vehicle;
+pub use pool_turn::Counts;
 
 // How an attempt ends: the pool is not emptied, or it is. With the counts of the call so far.
 #[derive(Clone, Copy)]

@@ -2,7 +2,7 @@
 use mathlib.Core.Path.{◌≡◌, refl, sym, ap, ◌∙◌}
 use mathlib.Core.Bool.{Bool, true, false, not, true≢false, false≢true}
 use lib.Ieee.{Float, nan, inf, fin, lt, le, eq, of_bits}
-use Rattle.floats.specs.Binary64.{0f, 1e-6, 1e12, is_finite, is_sign_negative}
+use Rattle.models.specs.floats.Binary64.{0f, 1e-6, 1e12, is_finite, is_sign_negative}
 use Rattle.models.specs.declared.vehicle.Limit.{Limit}
 use Rattle.models.specs.declared.vehicle.Limit.TheVariants.{At as LimitAt}
 use Rattle.models.specs.declared.vehicle.Rest.{Rest}

@@ -8,7 +8,7 @@ use lib.Dec.{eqb, leb}
 use mir.Syntax.{w64}
 use mir.Val.{Fits}
 use borrow.Author.Tests.{eq-eqb, ne_eqb, leb-true}
-use Rattle.laws.specs.Searches.{and_second}
+use Rattle.models.specs.laws.Searches.{and_second}
 use Rattle.models.specs.Valid.{count_passes}
 
 pub count_zero : (n : ℕ) → n ≡ 0 → false ≡ count_passes n

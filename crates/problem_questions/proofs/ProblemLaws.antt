@@ -3,14 +3,14 @@ use Prim.Native.Nat.{ℕ}
 use mathlib.Core.Path.{◌≡◌}
 use mathlib.Core.List.{[]}
 use lib.Ieee.{Float}
-use Rattle.models.specs.Problem.{Problem, Fit, matrix}
-use Rattle.models.proofs.ValidLaws.{valid_fit}
-use Rattle.lateness_bound.specs.Bound.{lateness_bound}
-use Rattle.route_cost.specs.Route.{gain_floor}
-use Rattle.entry.specs.Table.{refusal}
-use Rattle.entry.specs.Given.{numbered, problem_inputs}
-use Rattle.entry.proofs.AdmittedLaws.{not_refused, problem_accepted}
-use Rattle.planner.specs.Calls.{refused, answered, public_lateness_bound, public_gain_floor}
+use Rattle.planner_questions.specs.models.Problem.{Problem, Fit, matrix}
+use Rattle.planner_questions.proofs.of_models.ValidLaws.{valid_fit}
+use Rattle.planner_questions.specs.lateness_bound.Bound.{lateness_bound}
+use Rattle.planner_questions.specs.route_cost.Route.{gain_floor}
+use Rattle.planner_questions.specs.entry.Table.{refusal}
+use Rattle.planner_questions.specs.entry.Given.{numbered, problem_inputs}
+use Rattle.planner_questions.proofs.of_entry.AdmittedLaws.{not_refused, problem_accepted}
+use Rattle.planner_questions.specs.planner.Calls.{refused, answered, public_lateness_bound, public_gain_floor}
 use Rattle.planner_questions.proofs.QuestionLaws.{refuses, answers}
 
 module _ (p : Problem) (r : ℕ) where

@@ -2,15 +2,21 @@
 #![tactic(auto)]
 
 ghost use Rattle.std.specs.Prelude.{◌≡◌};
-ghost use Rattle.models.specs.Problem.{problem};
-ghost use Rattle.planner.specs.Calls.{public_lateness_bound, public_gain_floor, public_time_window_new};
+ghost use Rattle.planner_questions.specs.models.Problem.{problem};
+ghost use Rattle.planner_questions.specs.planner.Calls.{public_lateness_bound, public_gain_floor, public_time_window_new};
 ghost use Rattle.planner_questions.specs.Told.{number_told};
 
-use lateness_bound::bound;
-use models::customer::{TimeWindow, Window};
-use models::vehicle::Vehicle;
+use planner_questions::bound;
+use planner_questions::TimeWindow;
+use planner_questions::Window;
+
 use planner_questions::Number;
-use refusals::calls::problem_refusal;
+use planner_questions::problem_refusal;
+
+// Of the crates below, passed on to those above.
+pub use planner_questions::Limit;
+pub use planner_questions::Rest;
+pub use planner_questions::Vehicle;
 
 // The bound on the lateness cost of a route.
 pub fn lateness_bound(
@@ -60,7 +66,7 @@ pub fn gain_floor(
     if r != 0 {
         return Number::Refused(r);
     }
-    let floor = route_cost::gain_floor(distances);
+    let floor = planner_questions::route_cost_gain_floor(distances);
     Number::Answered(floor)
 }
 

@@ -1,9 +1,9 @@
 -- What a stored question asks; the kinds are numbered as in route_asked, specs/RouteAsked.antt. Assumes nothing.
 use Rattle.std.specs.Prelude.{ℕ, List, cond, eqb, Float}
-use Rattle.models.specs.Problem.{Problem}
-use Rattle.planner.specs.Calls.{public_lateness_bound, public_gain_floor, public_time_window_new}
-use Rattle.stored_answers.specs.declared.Stored.{Stored}
-use Rattle.stored_answers.specs.Answers.{number_stored, window_stored}
+use Rattle.problem_questions.specs.models.Problem.{Problem}
+use Rattle.problem_questions.specs.planner.Calls.{public_lateness_bound, public_gain_floor, public_time_window_new}
+use Rattle.same_answers.specs.stored_answers.declared.Stored.{Stored}
+use Rattle.same_answers.specs.stored_answers.Answers.{number_stored, window_stored}
 use Rattle.route_asked.specs.RouteAsked.{route_question}
 
 -- any question; x, y is the window of `time_window_new`

@@ -9,14 +9,14 @@ use lib.Dec.{eqb, ltb}
 use lib.Seq.{get_or-take}
 use lib.Ieee.{Float, nan, le}
 use borrow.Author.Tests.{lt-ltb, le-ltb, ltb-true, eqb-false}
-use Rattle.floats.specs.Binary64.{◌⊕◌, ◌⊗◌, 0f, 1f, 1e-9, max, abs}
-use Rattle.laws.specs.Loops.{cond_rule}
-use Rattle.models.specs.Customer.{Customers}
-use Rattle.models.specs.Problem.{DistanceMatrix, Stops}
-use Rattle.distance.specs.Matrix.{travel_time}
-use Rattle.evaluation.specs.declared.check.Left.{Left}
-use Rattle.evaluation.specs.declared.check.Left.TheVariants.{Missed, At as LeftAt}
-use Rattle.route_cost.specs.Route.{prev_stop}
+use Rattle.quick_test.specs.floats.Binary64.{◌⊕◌, ◌⊗◌, 0f, 1f, 1e-9, max, abs}
+use Rattle.quick_test.specs.laws.Loops.{cond_rule}
+use Rattle.quick_test.specs.models.Customer.{Customers}
+use Rattle.quick_test.specs.models.Problem.{DistanceMatrix, Stops}
+use Rattle.quick_test.specs.distance.Matrix.{travel_time}
+use Rattle.quick_test.specs.evaluation.declared.check.Left.{Left}
+use Rattle.quick_test.specs.evaluation.declared.check.Left.TheVariants.{Missed, At as LeftAt}
+use Rattle.quick_test.specs.route_cost.Route.{prev_stop}
 use Rattle.quick_test.specs.Quick.{in_time, reaches_next, left_before, may_fit}
 use Rattle.quick_test.specs.Parts.{leave, next_in_time}
 

@@ -3,12 +3,12 @@ use Prim.Native.Nat.{ℕ}
 use mathlib.Core.Path.{◌≡◌}
 use mathlib.Core.Bool.{true, false}
 use lib.Ieee.{Float, neg, lt}
-use Rattle.floats.specs.Binary64.{◌⊖◌, +∞, min}
-use Rattle.models.specs.declared.customer.Window.{Window}
-use Rattle.models.specs.declared.customer.Window.TheVariants.{None as NoWindow}
-use Rattle.models.specs.declared.customer.Customer.{Customer}
-use Rattle.models.specs.Problem.{DistanceMatrix}
-use Rattle.distance.specs.Matrix.{travel_time}
+use Rattle.insertion_cost.specs.floats.Binary64.{◌⊖◌, +∞, min}
+use Rattle.insertion_cost.specs.models.declared.customer.Window.{Window}
+use Rattle.insertion_cost.specs.models.declared.customer.Window.TheVariants.{None as NoWindow}
+use Rattle.insertion_cost.specs.models.declared.customer.Customer.{Customer}
+use Rattle.insertion_cost.specs.models.Problem.{DistanceMatrix}
+use Rattle.insertion_cost.specs.distance.Matrix.{travel_time}
 use Rattle.quick_test.specs.Quick.{earliest_start, latest_start, latest_arrival}
 use Rattle.quick_test.specs.Parts.{latest_in}
 

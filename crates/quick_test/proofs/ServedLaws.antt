@@ -3,16 +3,16 @@ use Prim.Native.Nat.{ℕ}
 use mathlib.Core.Path.{◌≡◌, sym, ap}
 use mathlib.Core.Bool.{true, false}
 use lib.Ieee.{Float}
-use Rattle.floats.specs.Binary64.{◌⊕◌}
-use Rattle.models.specs.declared.customer.TimeWindow.{TimeWindow}
-use Rattle.models.specs.declared.customer.Window.TheVariants.{None as NoWindow, Is as WindowIs}
-use Rattle.models.specs.declared.customer.Customer.{Customer}
-use Rattle.models.specs.TimeWindow.{waiting_time, is_violated}
-use Rattle.models.specs.Customer.{Customers, customer_at}
-use Rattle.models.specs.Problem.{DistanceMatrix}
-use Rattle.distance.specs.Matrix.{travel_time}
-use Rattle.evaluation.specs.declared.check.Left.{Left}
-use Rattle.evaluation.specs.declared.check.Left.TheVariants.{Missed, At as LeftAt}
+use Rattle.insertion_cost.specs.floats.Binary64.{◌⊕◌}
+use Rattle.insertion_cost.specs.models.declared.customer.TimeWindow.{TimeWindow}
+use Rattle.insertion_cost.specs.models.declared.customer.Window.TheVariants.{None as NoWindow, Is as WindowIs}
+use Rattle.insertion_cost.specs.models.declared.customer.Customer.{Customer}
+use Rattle.insertion_cost.specs.models.TimeWindow.{waiting_time, is_violated}
+use Rattle.insertion_cost.specs.models.Customer.{Customers, customer_at}
+use Rattle.insertion_cost.specs.models.Problem.{DistanceMatrix}
+use Rattle.insertion_cost.specs.distance.Matrix.{travel_time}
+use Rattle.insertion_cost.specs.evaluation.declared.check.Left.{Left}
+use Rattle.insertion_cost.specs.evaluation.declared.check.Left.TheVariants.{Missed, At as LeftAt}
 use Rattle.quick_test.specs.Quick.{served_in, served_at}
 use Rattle.quick_test.specs.Parts.{leave}
 

@@ -3,12 +3,12 @@ use Rattle.std.specs.Prelude.{ℕ, List, Bool, true, false, cond, length, get_or
 use Rattle.std.proofs.Math.Option.{Option, none, some}
 use Rattle.std.specs.Float.{nan}
 use Rattle.std.specs.Float.Ieee.{lt}
-use Rattle.floats.specs.Binary64.{◌⊕◌, -∞, min}
-use Rattle.models.specs.declared.customer.Window.{Window}
-use Rattle.models.specs.Customer.{Customers, customer_at}
-use Rattle.models.specs.Problem.{DistanceMatrix}
-use Rattle.distance.specs.Matrix.{travel_time}
-use Rattle.evaluation.specs.declared.check.Left.{Left}
+use Rattle.insertion_cost.specs.floats.Binary64.{◌⊕◌, -∞, min}
+use Rattle.insertion_cost.specs.models.declared.customer.Window.{Window}
+use Rattle.insertion_cost.specs.models.Customer.{Customers, customer_at}
+use Rattle.insertion_cost.specs.models.Problem.{DistanceMatrix}
+use Rattle.insertion_cost.specs.distance.Matrix.{travel_time}
+use Rattle.insertion_cost.specs.evaluation.declared.check.Left.{Left}
 use Rattle.quick_test.specs.Quick.{served_at, earliest_start, latest_start, in_time}
 
 -- the drive from prev, left at `time`, to c and the service there

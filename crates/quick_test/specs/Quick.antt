@@ -4,18 +4,18 @@ use Rattle.std.specs.Prelude.{ℕ, ◌-◌, List, [], ◌∷◌, Bool, true, fal
 use Rattle.std.proofs.Math.Option.{Option, none, some}
 use Rattle.std.specs.Float.{nan}
 use Rattle.std.specs.Float.Ieee.{lt, le}
-use Rattle.floats.specs.Binary64.{◌⊕◌, ◌⊖◌, ◌⊗◌, 0f, 1f, 1e-9, +∞, -∞, max, min, abs}
-use Rattle.models.specs.declared.customer.Window.{Window}
-use Rattle.models.specs.declared.customer.Window.TheVariants.{None as NoWindow, Is as WindowIs}
-use Rattle.models.specs.declared.customer.Customer.{Customer}
-use Rattle.models.specs.TimeWindow.{waiting_time, is_violated}
-use Rattle.models.specs.Customer.{Customers, customer_at}
-use Rattle.models.specs.Problem.{DistanceMatrix, Problem, depot}
-use Rattle.distance.specs.Matrix.{travel_time}
-use Rattle.evaluation.specs.declared.check.Left.{Left}
-use Rattle.evaluation.specs.declared.check.Left.TheVariants.{Missed, At as LeftAt}
-use Rattle.route_cost.specs.Route.{prev_stop}
-use Rattle.route_load.specs.Feasible.{constrained}
+use Rattle.insertion_cost.specs.floats.Binary64.{◌⊕◌, ◌⊖◌, ◌⊗◌, 0f, 1f, 1e-9, +∞, -∞, max, min, abs}
+use Rattle.insertion_cost.specs.models.declared.customer.Window.{Window}
+use Rattle.insertion_cost.specs.models.declared.customer.Window.TheVariants.{None as NoWindow, Is as WindowIs}
+use Rattle.insertion_cost.specs.models.declared.customer.Customer.{Customer}
+use Rattle.insertion_cost.specs.models.TimeWindow.{waiting_time, is_violated}
+use Rattle.insertion_cost.specs.models.Customer.{Customers, customer_at}
+use Rattle.insertion_cost.specs.models.Problem.{DistanceMatrix, Problem, depot}
+use Rattle.insertion_cost.specs.distance.Matrix.{travel_time}
+use Rattle.insertion_cost.specs.evaluation.declared.check.Left.{Left}
+use Rattle.insertion_cost.specs.evaluation.declared.check.Left.TheVariants.{Missed, At as LeftAt}
+use Rattle.insertion_cost.specs.route_cost.Route.{prev_stop}
+use Rattle.insertion_cost.specs.route_load.Feasible.{constrained}
 
 -- ---- forward
 

@@ -5,12 +5,12 @@ use native.Mathlib.Omega.{arith}
 use mathlib.Core.Path.{◌≡◌, ◌∙◌}
 use mathlib.Core.List.{List}
 use lib.ListN.{length}
-use Rattle.models.specs.Problem.{Problem}
-use Rattle.plan.specs.Plan.{Holds, split}
-use Rattle.plan.specs.Slices.{length_split}
-use Rattle.perturbation.specs.Perturb.{draw, move_between, other_than, move}
-use Rattle.perturbation.specs.Parts.{Pair}
-use Rattle.perturbation.specs.Moves.{draw_in, other_in, other_apart}
+use Rattle.pair_move.specs.models.Problem.{Problem}
+use Rattle.pair_move.specs.plan.Plan.{Holds, split}
+use Rattle.pair_move.specs.plan.Slices.{length_split}
+use Rattle.pair_move.specs.perturbation.Perturb.{draw, move_between, other_than, move}
+use Rattle.pair_move.specs.perturbation.Parts.{Pair}
+use Rattle.pair_move.specs.perturbation.Moves.{draw_in, other_in, other_apart}
 
 pub drawn_below : (tape : List ℕ) (d m x : ℕ) → 0 < m → x ≡ draw tape d m → x < m
 drawn_below tape d m x h e = rw e (draw_in tape d m h)

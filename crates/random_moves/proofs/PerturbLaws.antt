@@ -5,14 +5,14 @@ use mathlib.Core.Path.{◌≡◌, refl, ap, ◌∙◌}
 use mathlib.Core.List.{List}
 use lib.ListN.{length}
 use borrow.Author.Tests.{lt-ltb, le-ltb}
-use Rattle.laws.specs.Loops.{loop, loop_none, loop_more, loop_end}
-use Rattle.models.specs.Problem.{Problem}
-use Rattle.plan.specs.Plan.{Plan, Holds, Lent, split, flat, total, occurs}
-use Rattle.plan.specs.Slices.{length_split, holds_self, holds_number}
-use Rattle.local_search.specs.Planned.{Planned, planned_as}
-use Rattle.perturbation.specs.Perturb.{Drawn, move, perturb}
-use Rattle.perturbation.specs.Parts.{Movable}
-use Rattle.perturbation.specs.Moves.{move_places, move_draws}
+use Rattle.pair_move.specs.laws.Loops.{loop, loop_none, loop_more, loop_end}
+use Rattle.pair_move.specs.models.Problem.{Problem}
+use Rattle.pair_move.specs.plan.Plan.{Plan, Holds, Lent, split, flat, total, occurs}
+use Rattle.pair_move.specs.plan.Slices.{length_split, holds_self, holds_number}
+use Rattle.pair_move.specs.local_search.Planned.{Planned, planned_as}
+use Rattle.pair_move.specs.perturbation.Perturb.{Drawn, move, perturb}
+use Rattle.pair_move.specs.perturbation.Parts.{Movable}
+use Rattle.pair_move.specs.perturbation.Moves.{move_places, move_draws}
 
 abbrev pub drawn_plan : List ℕ → List ℕ → ℕ → Drawn
 drawn_plan lengths stops drawn = record { routes = split lengths stops; draws = drawn }

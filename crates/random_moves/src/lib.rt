@@ -2,17 +2,20 @@
 #![tactic(auto)]
 
 ghost use Rattle.std.specs.Prelude.{◌≡◌, ◌+◌, ◌≤◌, ◌<◌, ◌^◌, length};
-ghost use Rattle.models.specs.RouteLimits.{limits_of};
-ghost use Rattle.models.specs.Problem.{problem, Admitted};
-ghost use Rattle.evaluation.specs.Check.{route_checks_needed};
-ghost use Rattle.plan.specs.Plan.{Holds, Lent, split, total};
-ghost use Rattle.local_search.specs.Planned.{Planned};
-ghost use Rattle.perturbation.specs.Perturb.{Drawn, perturb};
+ghost use Rattle.pair_move.specs.models.RouteLimits.{limits_of};
+ghost use Rattle.pair_move.specs.models.Problem.{problem, Admitted};
+ghost use Rattle.pair_move.specs.evaluation.Check.{route_checks_needed};
+ghost use Rattle.pair_move.specs.plan.Plan.{Holds, Lent, split, total};
+ghost use Rattle.pair_move.specs.local_search.Planned.{Planned};
+ghost use Rattle.pair_move.specs.perturbation.Perturb.{Drawn, perturb};
 
 use crate::moves::one_move;
-use models::vehicle::Vehicle;
+use pair_move::Vehicle;
 
 pub mod moves;
+
+// Of the crates below, passed on to those above.
+pub use pair_move::eject;
 
 // 100 moves are tried, from draw `drawn` on; over fewer than two routes none. The work cells are free. Returns the draws of the call so far.
 pub fn perturb(

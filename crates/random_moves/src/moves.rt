@@ -1,15 +1,16 @@
 // One random move: between which two routes is drawn.
 ghost use Rattle.std.specs.Prelude.{◌≡◌, ◌≤◌, length};
-ghost use Rattle.models.specs.RouteLimits.{limits_of};
-ghost use Rattle.models.specs.Problem.{problem, Admitted};
-ghost use Rattle.evaluation.specs.Check.{route_checks_needed};
-ghost use Rattle.plan.specs.Plan.{Holds, split, total};
-ghost use Rattle.perturbation.specs.Perturb.{move};
-ghost use Rattle.perturbation.specs.Parts.{Movable};
+ghost use Rattle.pair_move.specs.models.RouteLimits.{limits_of};
+ghost use Rattle.pair_move.specs.models.Problem.{problem, Admitted};
+ghost use Rattle.pair_move.specs.evaluation.Check.{route_checks_needed};
+ghost use Rattle.pair_move.specs.plan.Plan.{Holds, split, total};
+ghost use Rattle.pair_move.specs.perturbation.Perturb.{move};
+ghost use Rattle.pair_move.specs.perturbation.Parts.{Movable};
 
-use models::vehicle::Vehicle;
+use pair_move::Vehicle;
 use pair_move::move_between;
-use perturbation::draws::{draw, other_than};
+use pair_move::draw;
+use pair_move::other_than;
 
 // Two routes are drawn, and a move between them tried. Returns the draws of the call so far.
 pub fn one_move(

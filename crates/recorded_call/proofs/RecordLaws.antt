@@ -3,13 +3,13 @@ use Prim.Native.Nat.{ℕ, ◌+◌, ◌*◌, ◌≤◌}
 use mathlib.Core.Path.{◌≡◌, ap, ◌∙◌}
 use mathlib.Core.List.{List, ◌++◌}
 use lib.ListN.{length, drop}
-use Rattle.models.specs.Problem.{Problem}
-use Rattle.planner.specs.declared.calls.Replied.{Replied}
-use Rattle.planner.specs.Calls.{Reply}
-use Rattle.planner.specs.Told.{replied_told, reply_of}
-use Rattle.planner.specs.Run.{call}
-use Rattle.call_words.specs.declared.Words.{Words}
-use Rattle.call_words.specs.Words.{Buffers, plan_slices, both_slices, words_at, call_of, answer_words, put}
+use Rattle.call_history.specs.models.Problem.{Problem}
+use Rattle.call_history.specs.planner.declared.calls.Replied.{Replied}
+use Rattle.call_history.specs.planner.Calls.{Reply}
+use Rattle.call_history.specs.planner.Told.{replied_told, reply_of}
+use Rattle.call_history.specs.planner.Run.{call}
+use Rattle.call_history.specs.call_words.declared.Words.{Words}
+use Rattle.call_history.specs.call_words.Words.{Buffers, plan_slices, both_slices, words_at, call_of, answer_words, put}
 use Rattle.called.specs.Lent.{Lent}
 use Rattle.recorded_call.specs.Recording.{reply_at, Recorded}
 

@@ -1,9 +1,9 @@
 -- What a call of a list asks for and what it leaves: one call, run and recorded. Assumes nothing.
 use Rattle.std.specs.Prelude.{ℕ, ◌+◌, ◌*◌, ◌≤◌, ◌≡◌, List, ◌++◌, length, drop}
-use Rattle.models.specs.Problem.{Problem}
-use Rattle.planner.specs.Calls.{Reply}
-use Rattle.planner.specs.Run.{call}
-use Rattle.call_words.specs.Words.{Buffers, plan_slices, both_slices, words_at, call_of, answer_words, put}
+use Rattle.call_history.specs.models.Problem.{Problem}
+use Rattle.call_history.specs.planner.Calls.{Reply}
+use Rattle.call_history.specs.planner.Run.{call}
+use Rattle.call_history.specs.call_words.Words.{Buffers, plan_slices, both_slices, words_at, call_of, answer_words, put}
 use Rattle.called.specs.Lent.{Lent}
 
 -- call i can be run, its tape beginning at `from`, and recorded

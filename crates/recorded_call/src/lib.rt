@@ -3,14 +3,20 @@
 #![tactic(auto)]
 
 ghost use Rattle.std.specs.Prelude.{◌≡◌};
-ghost use Rattle.models.specs.Problem.{problem};
-ghost use Rattle.call_words.specs.Words.{buffers};
+ghost use Rattle.call_history.specs.models.Problem.{problem};
+ghost use Rattle.call_history.specs.call_words.Words.{buffers};
 ghost use Rattle.recorded_call.specs.Recording.{Next, Recorded};
 
 use call_history::{record_answer, record_slices};
-use call_words::words_at;
+use call_history::words_at;
 use called::run_call;
-use models::vehicle::Vehicle;
+
+// Of the crates below, passed on to those above.
+pub use call_history::Vehicle;
+pub use called::minimise;
+pub use called::eliminate;
+pub use call_history::well_formed;
+
 
 // Call i, run and recorded. Its tape begins at `from`; the answer is where the next one begins.
 pub fn run_next(

@@ -6,14 +6,14 @@ use mathlib.Core.List.{List, [], ◌∷◌}
 use native.Mathlib.Omega.{arith}
 use lib.ListN.{length}
 use borrow.Author.Tests.{lt-ltb, le-ltb}
-use Rattle.laws.specs.Searches.{every}
-use Rattle.models.specs.Problem.{Problem, depot}
-use Rattle.models.specs.Valid.{sizes_pass, values_pass, window_ordered, windows_pass}
-use Rattle.models.proofs.ValidLaws.{sizes_demand, sizes_sized}
-use Rattle.plan.specs.Plan.{Slices}
-use Rattle.entry.specs.Table.{Work, bad_lengths, stops_pass, is_empty, too_few}
-use Rattle.entry.specs.Given.{numbered}
-use Rattle.entry.specs.Rows.{problem_rows, route_rows, plan_rows, work_rows, minimise_rows}
+use Rattle.place_checks.specs.laws.Searches.{every}
+use Rattle.place_checks.specs.models.Problem.{Problem, depot}
+use Rattle.place_checks.specs.models.Valid.{sizes_pass, values_pass, window_ordered, windows_pass}
+use Rattle.place_checks.proofs.of_models.ValidLaws.{sizes_demand, sizes_sized}
+use Rattle.stop_checks.specs.plan.Plan.{Slices}
+use Rattle.stop_checks.specs.entry.Table.{Work, bad_lengths, stops_pass, is_empty, too_few}
+use Rattle.stop_checks.specs.entry.Given.{numbered}
+use Rattle.stop_checks.specs.entry.Rows.{problem_rows, route_rows, plan_rows, work_rows, minimise_rows}
 
 -- ---- where row 1 lets a problem pass, the slices of the places are as long as one another
 

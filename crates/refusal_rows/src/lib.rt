@@ -3,19 +3,37 @@
 #![tactic(auto)]
 
 ghost use Rattle.std.specs.Prelude.{◌≡◌, true, []};
-ghost use Rattle.models.specs.Problem.{problem, of_distances};
-ghost use Rattle.models.specs.Valid.{sizes_pass, values_pass};
-ghost use Rattle.plan.specs.Plan.{Slices};
-ghost use Rattle.entry.specs.Table.{Work};
-ghost use Rattle.entry.specs.Given.{numbered};
-ghost use Rattle.entry.specs.Rows.{problem_rows, route_rows, plan_rows, work_rows, minimise_rows};
+ghost use Rattle.place_checks.specs.models.Problem.{problem, of_distances};
+ghost use Rattle.place_checks.specs.models.Valid.{sizes_pass, values_pass};
+ghost use Rattle.stop_checks.specs.plan.Plan.{Slices};
+ghost use Rattle.stop_checks.specs.entry.Table.{Work};
+ghost use Rattle.stop_checks.specs.entry.Given.{numbered};
+ghost use Rattle.stop_checks.specs.entry.Rows.{problem_rows, route_rows, plan_rows, work_rows, minimise_rows};
 
-use length_checks::bad_lengths;
-use models::vehicle::Vehicle;
+use stop_checks::bad_lengths;
+
 use place_checks::{places_pass, windows_pass};
-use problem_checks::amounts::{amounts_pass, vehicle_passes};
-use problem_checks::sizes::sizes_pass;
+use place_checks::amounts_pass;
+use place_checks::vehicle_passes;
+use place_checks::sizes_pass;
 use stop_checks::stops_pass;
+
+// Of the crates below, passed on to those above.
+pub use place_checks::TimeWindow;
+pub use place_checks::Window;
+pub use place_checks::RouteLimits;
+pub use place_checks::Limit;
+pub use place_checks::Rest;
+pub use place_checks::Vehicle;
+pub use place_checks::VehicleBreak;
+pub use stop_checks::Taken;
+pub use stop_checks::Eval;
+pub use stop_checks::RouteEval;
+pub use stop_checks::break_schedule_schedule;
+pub use stop_checks::evaluation_check;
+pub use stop_checks::route_cost_gain_floor;
+pub use stop_checks::route_cost_route_distance;
+pub use place_checks::break_passes;
 
 // Whether row 2 lets the problem pass, where row 1 does.
 fn values_pass(

@@ -4,14 +4,14 @@ use mathlib.Core.Path.{◌≡◌, refl, sym, ap, ◌∙◌}
 use mathlib.Core.Bool.{Bool, true}
 use mathlib.Core.List.{List, []}
 use mathlib.Core.Option.{Option}
-use Rattle.models.specs.declared.vehicle.Rest.TheVariants.{Break}
-use Rattle.models.specs.declared.vehicle.VehicleBreak.{VehicleBreak}
-use Rattle.models.specs.Problem.{Problem, of_distances}
-use Rattle.models.specs.Valid.{rest_passes}
-use Rattle.plan.specs.Plan.{Slices}
-use Rattle.entry.specs.Table.{Work, stop_passes, stops_pass, refusal}
-use Rattle.entry.specs.Given.{numbered, problem_inputs, route_inputs, schedule_inputs, eliminate_inputs, minimise_inputs}
-use Rattle.entry.specs.Rows.{problem_rows, route_rows, plan_rows, work_rows, minimise_rows, or_else, problem_refusal, route_refusal, schedule_refusal, eliminate_refusal, minimise_refusal}
+use Rattle.refusal_rows.specs.models.declared.vehicle.Rest.TheVariants.{Break}
+use Rattle.refusal_rows.specs.models.declared.vehicle.VehicleBreak.{VehicleBreak}
+use Rattle.refusal_rows.specs.models.Problem.{Problem, of_distances}
+use Rattle.refusal_rows.specs.models.Valid.{rest_passes}
+use Rattle.refusal_rows.specs.plan.Plan.{Slices}
+use Rattle.refusal_rows.specs.entry.Table.{Work, stop_passes, stops_pass, refusal}
+use Rattle.refusal_rows.specs.entry.Given.{numbered, problem_inputs, route_inputs, schedule_inputs, eliminate_inputs, minimise_inputs}
+use Rattle.refusal_rows.specs.entry.Rows.{problem_rows, route_rows, plan_rows, work_rows, minimise_rows, or_else, problem_refusal, route_refusal, schedule_refusal, eliminate_refusal, minimise_refusal}
 
 -- ---- rows 5 and 6 read the number of places and the depot alone
 

@@ -1,12 +1,13 @@
 // What each public call is refused with: the number of the first row that applies, 0 where none does.
 ghost use Rattle.std.specs.Prelude.{◌≡◌};
-ghost use Rattle.models.specs.Problem.{problem};
-ghost use Rattle.plan.specs.Plan.{Slices};
-ghost use Rattle.entry.specs.Table.{Work, refusal};
-ghost use Rattle.entry.specs.Given.{numbered, problem_inputs, route_inputs, schedule_inputs, eliminate_inputs, minimise_inputs};
+ghost use Rattle.refusal_rows.specs.models.Problem.{problem};
+ghost use Rattle.refusal_rows.specs.plan.Plan.{Slices};
+ghost use Rattle.refusal_rows.specs.entry.Table.{Work, refusal};
+ghost use Rattle.refusal_rows.specs.entry.Given.{numbered, problem_inputs, route_inputs, schedule_inputs, eliminate_inputs, minimise_inputs};
 
-use models::vehicle::{Vehicle, VehicleBreak};
-use problem_checks::amounts::break_passes;
+use refusal_rows::Vehicle;
+use refusal_rows::VehicleBreak;
+use refusal_rows::break_passes;
 use refusal_rows::{minimise_rows, plan_rows, problem_rows, route_rows, work_rows};
 
 // A call that is given the problem alone: rows 1 to 4.

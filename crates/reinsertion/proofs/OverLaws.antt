@@ -9,16 +9,16 @@ use mathlib.Core.Option.{Option, none, some}
 use lib.ListN.{length, get_or, take, drop, length-take}
 use lib.Ieee.{Float, le}
 use borrow.Author.Rules.{rules}
-use Rattle.floats.specs.Binary64.{◌⊕◌}
-use Rattle.laws.specs.Loops.{loop, loop_none, loop_more, loop_end}
-use Rattle.models.specs.Problem.{Problem}
-use Rattle.plan.specs.Plan.{Plan, split, route}
-use Rattle.plan.specs.Slices.{length_split, route_within}
-use Rattle.route_cost.specs.declared.Insertion.{Insertion}
-use Rattle.route_cost.specs.declared.Best.{Best}
-use Rattle.route_cost.specs.declared.Best.TheVariants.{Nothing, At}
-use Rattle.route_cost.specs.Route.{chosen}
-use Rattle.route_cost.proofs.VisitLaws.{Visiting, visit_start, part_is, visit_more, visit_laws}
+use Rattle.reinsertion_candidates.specs.floats.Binary64.{◌⊕◌}
+use Rattle.reinsertion_candidates.specs.laws.Loops.{loop, loop_none, loop_more, loop_end}
+use Rattle.reinsertion_candidates.specs.models.Problem.{Problem}
+use Rattle.reinsertion_candidates.specs.plan.Plan.{Plan, split, route}
+use Rattle.reinsertion_candidates.specs.plan.Slices.{length_split, route_within}
+use Rattle.reinsertion_candidates.specs.route_cost.declared.Insertion.{Insertion}
+use Rattle.reinsertion_candidates.specs.route_cost.declared.Best.{Best}
+use Rattle.reinsertion_candidates.specs.route_cost.declared.Best.TheVariants.{Nothing, At}
+use Rattle.reinsertion_candidates.specs.route_cost.Route.{chosen}
+use Rattle.reinsertion_candidates.proofs.of_route_cost.VisitLaws.{Visiting, visit_start, part_is, visit_more, visit_laws}
 use Rattle.reinsertion_candidates.specs.declared.Move.{Move}
 use Rattle.reinsertion_candidates.specs.Candidates.{candidates, by_cost, first_passing}
 use Rattle.reinsertion_candidates.specs.Place.{look_through, look_over, unless_cut, place_is}

@@ -11,17 +11,17 @@ use lib.Ieee.{Float}
 use mir.Syntax.{w64}
 use mir.Val.{Fits}
 use borrow.Author.Rules.{rules}
-use Rattle.floats.specs.Binary64.{is_finite}
-use Rattle.laws.specs.Loops.{loop, loop_none, loop_more, loop_end, loop_same}
-use Rattle.models.specs.declared.vehicle.Vehicle.{Vehicle}
-use Rattle.models.specs.Problem.{Problem, problem, of_demand}
-use Rattle.route_cost.specs.declared.Insertion.{Insertion}
-use Rattle.route_cost.specs.declared.Best.{Best}
-use Rattle.route_cost.specs.Route.{chosen}
-use Rattle.route_load.specs.Feasible.{has_room}
-use Rattle.local_search.proofs.ReadLaws.{room_any}
+use Rattle.reinsertion_candidates.specs.floats.Binary64.{is_finite}
+use Rattle.reinsertion_candidates.specs.laws.Loops.{loop, loop_none, loop_more, loop_end, loop_same}
+use Rattle.reinsertion_candidates.specs.models.declared.vehicle.Vehicle.{Vehicle}
+use Rattle.reinsertion_candidates.specs.models.Problem.{Problem, problem, of_demand}
+use Rattle.reinsertion_candidates.specs.route_cost.declared.Insertion.{Insertion}
+use Rattle.reinsertion_candidates.specs.route_cost.declared.Best.{Best}
+use Rattle.reinsertion_candidates.specs.route_cost.Route.{chosen}
+use Rattle.reinsertion_candidates.specs.route_load.Feasible.{has_room}
+use Rattle.reinsertion_candidates.proofs.of_local_search.ReadLaws.{room_any}
 use Rattle.reinsertion_candidates.specs.declared.Move.{Move}
-use Rattle.reinsertion_worth.specs.Worth.{worth, insertion_worth, current}
+use Rattle.reinsertion_candidates.specs.reinsertion_worth.Worth.{worth, insertion_worth, current}
 use Rattle.reinsertion_candidates.specs.Place.{counts, comes_first, settles, look_at, look_through}
 use Rattle.reinsertion_candidates.specs.Asked.{Looked}
 

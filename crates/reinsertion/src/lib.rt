@@ -3,20 +3,39 @@
 #![tactic(auto)]
 
 ghost use Rattle.std.specs.Prelude.{◌≡◌, [], suc, ◌-◌, ◌<◌, ◌≤◌, length, take, drop};
-ghost use Rattle.laws.specs.Loops.{loop};
-ghost use Rattle.models.specs.Problem.{problem, Stops};
-ghost use Rattle.plan.specs.Plan.{split};
-ghost use Rattle.route_cost.specs.Route.{chosen};
-ghost use Rattle.reinsertion_worth.specs.Worth.{current};
+ghost use Rattle.reinsertion_candidates.specs.laws.Loops.{loop};
+ghost use Rattle.reinsertion_candidates.specs.models.Problem.{problem, Stops};
+ghost use Rattle.reinsertion_candidates.specs.plan.Plan.{split};
+ghost use Rattle.reinsertion_candidates.specs.route_cost.Route.{chosen};
+ghost use Rattle.reinsertion_candidates.specs.reinsertion_worth.Worth.{current};
 ghost use Rattle.reinsertion_candidates.specs.Candidates.{candidates, by_cost, first_passing};
 ghost use Rattle.reinsertion_candidates.specs.Place.{look_at, look_through, look_over};
 ghost use Rattle.reinsertion_candidates.specs.Asked.{Asked, Looked, Room};
 
-use models::vehicle::Vehicle;
-use reinsertion_candidates::{Move, leads, settles};
-use reinsertion_worth::{current, insertion_worth};
-use route_cost::{Best, Insertion};
-use route_load::has_room;
+
+use reinsertion_candidates::leads;
+use reinsertion_candidates::settles;
+use reinsertion_candidates::current;
+use reinsertion_candidates::insertion_worth;
+use reinsertion_candidates::RouteCostBest as Best;
+use reinsertion_candidates::Insertion;
+use reinsertion_candidates::has_room;
+
+// Of the crates below, passed on to those above.
+pub use reinsertion_candidates::is_finite;
+pub use reinsertion_candidates::Vehicle;
+pub use reinsertion_candidates::has_soft_windows;
+pub use reinsertion_candidates::put_in;
+pub use reinsertion_candidates::Pick;
+pub use reinsertion_candidates::next_pick;
+pub use reinsertion_candidates::RouteCostBest;
+pub use reinsertion_candidates::route_cost_gain_floor;
+pub use reinsertion_candidates::constrained;
+pub use reinsertion_candidates::Counts;
+pub use reinsertion_candidates::LocalSearchNext;
+pub use reinsertion_candidates::Reduction;
+pub use reinsertion_candidates::worth;
+pub use reinsertion_candidates::Move;
 
 // One position of route k, which has room for the stop: the better of what it gives and the best so far.
 fn look_at(

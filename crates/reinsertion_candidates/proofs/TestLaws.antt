@@ -4,14 +4,14 @@ use mathlib.Core.Path.{◌≡◌}
 use mathlib.Core.Bool.{Bool, true, false, not, ◌||◌}
 use mathlib.Core.List.{List}
 use lib.Ieee.{Float, le}
-use Rattle.floats.specs.Binary64.{◌⊕◌, is_finite, total_less}
-use Rattle.laws.specs.Edits.{insert_at}
-use Rattle.models.specs.Problem.{Problem}
-use Rattle.route_cost.specs.declared.Insertion.{Insertion}
-use Rattle.route_cost.specs.declared.Best.{Best}
-use Rattle.route_cost.specs.declared.Best.TheVariants.{At}
-use Rattle.route_cost.specs.Route.{chosen}
-use Rattle.route_load.specs.Feasible.{checked}
+use Rattle.reinsertion_worth.specs.floats.Binary64.{◌⊕◌, is_finite, total_less}
+use Rattle.reinsertion_worth.specs.laws.Edits.{insert_at}
+use Rattle.reinsertion_worth.specs.models.Problem.{Problem}
+use Rattle.reinsertion_worth.specs.route_cost.declared.Insertion.{Insertion}
+use Rattle.reinsertion_worth.specs.route_cost.declared.Best.{Best}
+use Rattle.reinsertion_worth.specs.route_cost.declared.Best.TheVariants.{At}
+use Rattle.reinsertion_worth.specs.route_cost.Route.{chosen}
+use Rattle.reinsertion_worth.specs.route_load.Feasible.{checked}
 use Rattle.reinsertion_candidates.specs.Place.{comes_first, settles}
 
 pub counts_soft : (s v : Bool) (x : Float) → s ≡ true → v ≡ is_finite x → v ≡ (not s || is_finite x)

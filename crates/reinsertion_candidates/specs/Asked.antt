@@ -1,10 +1,10 @@
 -- What the code asks of a stop that is to be moved, of a route that it may go into, and of the plan. Assumes nothing.
 use Rattle.std.specs.Prelude.{ℕ, ◌<◌, ◌≡◌, List, [], length, ℤ, Float}
-use Rattle.laws.specs.All.{All}
-use Rattle.models.specs.declared.vehicle.Vehicle.{Vehicle}
-use Rattle.models.specs.Problem.{Problem, problem, depot, Fit, Stops, Admitted}
-use Rattle.plan.specs.Plan.{Lent, split, total}
-use Rattle.route_load.specs.Feasible.{constrained}
+use Rattle.reinsertion_worth.specs.laws.All.{All}
+use Rattle.reinsertion_worth.specs.models.declared.vehicle.Vehicle.{Vehicle}
+use Rattle.reinsertion_worth.specs.models.Problem.{Problem, problem, depot, Fit, Stops, Admitted}
+use Rattle.reinsertion_worth.specs.plan.Plan.{Lent, split, total}
+use Rattle.reinsertion_worth.specs.route_load.Feasible.{constrained}
 use Rattle.reinsertion_candidates.specs.declared.Move.{Move}
 use Rattle.reinsertion_worth.specs.Worth.{soft}
 

@@ -3,14 +3,14 @@ use Rattle.std.specs.Prelude.{ℕ, suc, cond, not, ◌||◌, length, Float}
 use mathlib.Core.List.{List, [], ◌∷◌, map, flat_map}
 use Rattle.std.proofs.Math.Option.{Option, none, some}
 use Rattle.std.specs.Float.Ieee.{le}
-use Rattle.floats.specs.Binary64.{◌⊕◌, 0f, is_finite, total_less}
-use Rattle.laws.specs.Edits.{insert_at}
-use Rattle.laws.specs.Keeps.{keep}
-use Rattle.laws.specs.Sorts.{range, sort_by}
-use Rattle.models.specs.Problem.{Problem}
-use Rattle.plan.specs.Plan.{Plan, route}
-use Rattle.route_cost.specs.declared.Insertion.{Insertion}
-use Rattle.route_load.specs.Feasible.{has_room, checked}
+use Rattle.reinsertion_worth.specs.floats.Binary64.{◌⊕◌, 0f, is_finite, total_less}
+use Rattle.reinsertion_worth.specs.laws.Edits.{insert_at}
+use Rattle.reinsertion_worth.specs.laws.Keeps.{keep}
+use Rattle.reinsertion_worth.specs.laws.Sorts.{range, sort_by}
+use Rattle.reinsertion_worth.specs.models.Problem.{Problem}
+use Rattle.reinsertion_worth.specs.plan.Plan.{Plan, route}
+use Rattle.reinsertion_worth.specs.route_cost.declared.Insertion.{Insertion}
+use Rattle.reinsertion_worth.specs.route_load.Feasible.{has_room, checked}
 use Rattle.reinsertion_worth.specs.Worth.{soft, insertion_worth}
 
 -- the candidates for c in route k: every position, but for costs that are not finite where a window is soft

@@ -5,3 +5,13 @@ pub mod Candidates
 pub mod Place
 -- what the code asks of a stop, a route and a plan
 pub mod Asked
+-- crates below, passed on to those above
+pub use Rattle.reinsertion_worth.specs.laws as laws
+pub use Rattle.reinsertion_worth.specs.floats as floats
+pub use Rattle.reinsertion_worth.specs.models as models
+pub use Rattle.reinsertion_worth.specs.plan as plan
+pub use Rattle.reinsertion_worth.specs.route_order as route_order
+pub use Rattle.reinsertion_worth.specs.route_cost as route_cost
+pub use Rattle.reinsertion_worth.specs.route_load as route_load
+pub use Rattle.reinsertion_worth.specs.local_search as local_search
+pub use Rattle.reinsertion_worth.specs as reinsertion_worth

@@ -9,15 +9,15 @@ use mathlib.Core.List.{List, [], ◌∷◌, map}
 use Rattle.std.proofs.Math.Bool.{true, false, cond}
 use Rattle.std.proofs.Math.Option.{Option, none, some}
 use Rattle.std.specs.Float.Ieee.{le}
-use Rattle.floats.specs.Binary64.{◌⊕◌, is_finite, total_rank, total_less}
-use Rattle.laws.specs.Edits.{insert_at}
-use Rattle.laws.specs.Loops.{loop, loop_same, foldl}
-use Rattle.laws.specs.Sorts.{range}
-use Rattle.laws.specs.Firsts.{Ordering, ordering_by, find, find_sorted, better, foldl_map, foldl_flat, foldl_keep, foldl_range}
-use Rattle.models.specs.Problem.{Problem}
-use Rattle.plan.specs.Plan.{Plan, route}
-use Rattle.route_cost.specs.declared.Insertion.{Insertion}
-use Rattle.route_load.specs.Feasible.{has_room, checked}
+use Rattle.reinsertion_worth.specs.floats.Binary64.{◌⊕◌, is_finite, total_rank, total_less}
+use Rattle.reinsertion_worth.specs.laws.Edits.{insert_at}
+use Rattle.reinsertion_worth.specs.laws.Loops.{loop, loop_same, foldl}
+use Rattle.reinsertion_worth.specs.laws.Sorts.{range}
+use Rattle.reinsertion_worth.specs.laws.Firsts.{Ordering, ordering_by, find, find_sorted, better, foldl_map, foldl_flat, foldl_keep, foldl_range}
+use Rattle.reinsertion_worth.specs.models.Problem.{Problem}
+use Rattle.reinsertion_worth.specs.plan.Plan.{Plan, route}
+use Rattle.reinsertion_worth.specs.route_cost.declared.Insertion.{Insertion}
+use Rattle.reinsertion_worth.specs.route_load.Feasible.{has_room, checked}
 use Rattle.reinsertion_worth.specs.Worth.{soft, insertion_worth}
 use Rattle.reinsertion_candidates.specs.Candidates.{positions, candidates_in, candidates, nowhere, by_cost, trial, first_passing}
 

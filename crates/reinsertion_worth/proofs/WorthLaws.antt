@@ -7,17 +7,17 @@ use mathlib.Core.List.{List, ◌++◌}
 use lib.ListN.{length, take, drop}
 use lib.Seq.{paste, take-paste, take-length, take_at}
 use lib.Ieee.{Float}
-use Rattle.floats.specs.Binary64.{◌⊖◌, 0f}
-use Rattle.laws.specs.All.{all_of, all_get}
-use Rattle.laws.specs.Edits.{insert_at, length_insert_at, all_insert_at}
-use Rattle.models.specs.declared.limits.RouteLimits.{RouteLimits}
-use Rattle.models.specs.RouteLimits.{limits_of}
-use Rattle.models.specs.declared.vehicle.Vehicle.{Vehicle}
-use Rattle.models.specs.Customer.{Customers}
-use Rattle.models.specs.Problem.{DistanceMatrix, Problem, Stops, depot}
-use Rattle.evaluation.specs.Eval.{effective_cost}
-use Rattle.route_cost.specs.Route.{route_distance, insertion_cost}
-use Rattle.local_search.proofs.ReadLaws.{distance_any, insertion_any}
+use Rattle.route_worth.specs.floats.Binary64.{◌⊖◌, 0f}
+use Rattle.route_worth.specs.laws.All.{all_of, all_get}
+use Rattle.route_worth.specs.laws.Edits.{insert_at, length_insert_at, all_insert_at}
+use Rattle.route_worth.specs.models.declared.limits.RouteLimits.{RouteLimits}
+use Rattle.route_worth.specs.models.RouteLimits.{limits_of}
+use Rattle.route_worth.specs.models.declared.vehicle.Vehicle.{Vehicle}
+use Rattle.route_worth.specs.models.Customer.{Customers}
+use Rattle.route_worth.specs.models.Problem.{DistanceMatrix, Problem, Stops, depot}
+use Rattle.route_worth.specs.evaluation.Eval.{effective_cost}
+use Rattle.insertion_cost.specs.route_cost.Route.{route_distance, insertion_cost}
+use Rattle.insertion_cost.proofs.of_local_search.ReadLaws.{distance_any, insertion_any}
 use Rattle.reinsertion_worth.specs.Worth.{soft, worth, insertion_worth, current}
 
 -- ---- a route, with a soft window and without one

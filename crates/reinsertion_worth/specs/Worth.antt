@@ -1,12 +1,12 @@
 -- What a route and an insertion are worth (route_elimination.rs, the closure `worth`, and `cost` in the body of `for c in moving`). Assumes nothing.
 use Rattle.std.specs.Prelude.{ℕ, List, Bool, cond, Float}
-use Rattle.floats.specs.Binary64.{◌⊖◌, 0f}
-use Rattle.laws.specs.Edits.{insert_at}
-use Rattle.models.specs.RouteLimits.{limits_of}
-use Rattle.models.specs.Problem.{Problem, depot}
-use Rattle.evaluation.specs.Eval.{effective_cost}
-use Rattle.evaluation.specs.Check.{has_soft_windows}
-use Rattle.route_cost.specs.Route.{route_distance, insertion_cost}
+use Rattle.route_worth.specs.floats.Binary64.{◌⊖◌, 0f}
+use Rattle.route_worth.specs.laws.Edits.{insert_at}
+use Rattle.route_worth.specs.models.RouteLimits.{limits_of}
+use Rattle.route_worth.specs.models.Problem.{Problem, depot}
+use Rattle.route_worth.specs.evaluation.Eval.{effective_cost}
+use Rattle.route_worth.specs.evaluation.Check.{has_soft_windows}
+use Rattle.insertion_cost.specs.route_cost.Route.{route_distance, insertion_cost}
 
 -- `soft`
 abbrev pub soft : Problem → Bool

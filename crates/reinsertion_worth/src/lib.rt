@@ -3,21 +3,40 @@
 #![tactic(auto)]
 
 ghost use Rattle.std.specs.Prelude.{◌≡◌, [], ◌+◌, ◌<◌, ◌≤◌, length, take};
-ghost use Rattle.laws.specs.Edits.{insert_at};
-ghost use Rattle.models.specs.Customer.{customers};
-ghost use Rattle.models.specs.RouteLimits.{limits_of};
-ghost use Rattle.models.specs.Problem.{matrix, problem, Fit, Stops};
-ghost use Rattle.evaluation.specs.Check.{has_soft_windows};
-ghost use Rattle.evaluation.specs.Eval.{effective_cost};
+ghost use Rattle.route_worth.specs.laws.Edits.{insert_at};
+ghost use Rattle.route_worth.specs.models.Customer.{customers};
+ghost use Rattle.route_worth.specs.models.RouteLimits.{limits_of};
+ghost use Rattle.route_worth.specs.models.Problem.{matrix, problem, Fit, Stops};
+ghost use Rattle.route_worth.specs.evaluation.Check.{has_soft_windows};
+ghost use Rattle.route_worth.specs.evaluation.Eval.{effective_cost};
 ghost use Rattle.reinsertion_worth.specs.Worth.{worth, insertion_worth, current};
 
-use cell_shifts::insert_at;
-use cells::copy_part;
+use insertion_cost::insert_at;
+use insertion_cost::copy_part;
 use insertion_cost::insertion_cost;
-use models::limits::RouteLimits;
-use models::vehicle::Vehicle;
-use route_cost::route_distance;
+use route_worth::RouteLimits;
+
+use insertion_cost::route_cost_route_distance as route_distance;
 use route_worth::effective_cost;
+
+// Of the crates below, passed on to those above.
+pub use route_worth::is_finite;
+pub use route_worth::total_less;
+pub use route_worth::Vehicle;
+pub use route_worth::has_soft_windows;
+pub use insertion_cost::cut;
+pub use insertion_cost::put_in;
+pub use insertion_cost::Pick;
+pub use insertion_cost::next_pick;
+pub use insertion_cost::RouteCostBest;
+pub use insertion_cost::Insertion;
+pub use insertion_cost::route_cost_gain_floor;
+pub use insertion_cost::has_room;
+pub use insertion_cost::constrained;
+pub use insertion_cost::trial_ok;
+pub use insertion_cost::Counts;
+pub use insertion_cost::LocalSearchNext;
+pub use insertion_cost::Reduction;
 
 // What a route is worth.
 pub fn worth(

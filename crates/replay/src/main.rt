@@ -7,8 +7,13 @@ ghost use Rattle.std.specs.Prelude.{◌≡◌, length};
 mod cases;
 
 use cases::case_at;
-use stored::text::{FAULT, at_end, number};
-use tally::{print_fault, print_misfit, print_tally, print_too_long};
+use replayed_calls::FAULT;
+use replayed_calls::at_end;
+use replayed_calls::stored_number as number;
+use replayed_calls::print_fault;
+use replayed_calls::print_misfit;
+use replayed_calls::print_tally;
+use replayed_calls::print_too_long;
 
 // Replays the cases of a text.
 fn replay(text: &[u8]) {

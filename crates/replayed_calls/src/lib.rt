@@ -7,13 +7,32 @@
 ghost use Rattle.std.specs.Prelude.{◌≡◌, ◌<◌, length};
 
 use change_verdict::change_agrees;
-use models::vehicle::Vehicle;
+
 use question_verdict::question_agrees;
-use stored::slices::{read_u16, read_u64};
-use stored::text::{FAULT, number, number_to};
-use stored_answers::Stored;
-use stored_values::float_of;
+use stored::slices::read_u64;
+use stored::text::number;
+use question_verdict::Stored;
+
 use tally::note;
+
+// Of the crates below, passed on to those above.
+pub use question_verdict::Limit;
+pub use question_verdict::Rest;
+pub use question_verdict::Vehicle;
+pub use stored::float_of;
+pub use stored::int_of;
+pub use stored::slices::read_f64;
+pub use stored::slices::read_i32;
+pub use stored::slices::read_u16;
+pub use stored::slices::read_u8;
+pub use stored::text::FAULT;
+pub use stored::text::at_end;
+pub use stored::text::number as stored_number;
+pub use stored::text::number_to;
+pub use tally::print_fault;
+pub use tally::print_misfit;
+pub use tally::print_tally;
+pub use tally::print_too_long;
 
 // An answer, and the position after it.
 #[derive(Clone, Copy)]

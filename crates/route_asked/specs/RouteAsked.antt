@@ -1,7 +1,7 @@
 -- What a stored question about a route asks. Assumes nothing.
 use Rattle.std.specs.Prelude.{ℕ, List, cond, eqb, Float}
-use Rattle.models.specs.Problem.{Problem}
-use Rattle.planner.specs.Calls.{public_route_feasible, public_route_eval, public_effective_cost, public_schedule, public_route_distance}
+use Rattle.worth_questions.specs.models.Problem.{Problem}
+use Rattle.worth_questions.specs.planner.Calls.{public_route_feasible, public_route_eval, public_effective_cost, public_schedule, public_route_distance}
 use Rattle.stored_answers.specs.declared.Stored.{Stored}
 use Rattle.stored_answers.specs.Answers.{checked_stored, number_stored, evaluated_stored}
 

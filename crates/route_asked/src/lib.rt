@@ -2,10 +2,11 @@
 #![tactic(auto)]
 
 ghost use Rattle.std.specs.Prelude.{◌≡◌};
-ghost use Rattle.models.specs.Problem.{problem};
+ghost use Rattle.worth_questions.specs.models.Problem.{problem};
 ghost use Rattle.route_asked.specs.RouteAsked.{route_question};
 
-use models::vehicle::{Vehicle, VehicleBreak};
+use worth_questions::Vehicle;
+use worth_questions::VehicleBreak;
 use stored_answers::{Stored, of_checked, of_evaluated, of_number};
 
 // The answer to a question about a route. Three floats are the break that `schedule` is given.
@@ -30,7 +31,7 @@ pub fn ask_of_route(
         distances.now times.now vehicle) route.now x y z }
 {
     if kind == 2 {
-        return of_checked(planner_questions::route_feasible(
+        return of_checked(worth_questions::planner_questions_route_feasible(
             route, n, demand, service, ready, due, penalty, flags, distances, times, vehicle,
         ));
     }
@@ -50,11 +51,11 @@ pub fn ask_of_route(
             latest: y,
             duration: z,
         };
-        return of_evaluated(planner_questions::schedule(
+        return of_evaluated(worth_questions::planner_questions_schedule(
             route, rest, n, demand, service, ready, due, penalty, flags, distances, times, vehicle,
         ));
     }
-    of_number(planner_questions::route_distance(
+    of_number(worth_questions::planner_questions_route_distance(
         route, n, demand, service, ready, due, penalty, flags, distances, times, vehicle,
     ))
 }

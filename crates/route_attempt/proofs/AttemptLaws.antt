@@ -7,15 +7,15 @@ use native.Mathlib.Omega.{arith}
 use lib.ListN.{length, take, drop, length-append, length-take, length-drop}
 use lib.Seq.{length-take-le}
 use lib.Ieee.{Float}
-use Rattle.models.specs.Problem.{Problem}
-use Rattle.plan.specs.Plan.{Plan, saved}
-use Rattle.plan.specs.Saved.{saved_lengths, saved_stops}
-use Rattle.local_search.specs.declared.rounds.Counts.{Counts}
-use Rattle.local_search.specs.Rounds.{Tried}
-use Rattle.local_search.specs.Search.{EndsWith0}
-use Rattle.pool_attempt.specs.declared.Attempted.{Attempted}
-use Rattle.pool_attempt.specs.declared.Attempted.TheVariants.{Kept, Accepted}
-use Rattle.pool_attempt.specs.Judged.{tried}
+use Rattle.route_without.specs.models.Problem.{Problem}
+use Rattle.plan_copy.specs.plan.Plan.{Plan, saved}
+use Rattle.plan_copy.specs.plan.Saved.{saved_lengths, saved_stops}
+use Rattle.route_without.specs.local_search.declared.rounds.Counts.{Counts}
+use Rattle.route_without.specs.local_search.Rounds.{Tried}
+use Rattle.route_without.specs.local_search.Search.{EndsWith0}
+use Rattle.route_without.specs.pool_attempt.declared.Attempted.{Attempted}
+use Rattle.route_without.specs.pool_attempt.declared.Attempted.TheVariants.{Kept, Accepted}
+use Rattle.route_without.specs.pool_attempt.Judged.{tried}
 use Rattle.route_without.specs.Attempting.{Attempting}
 use Rattle.route_attempt.specs.Leaves.{Leaves}
 

@@ -2,21 +2,25 @@
 #![tactic(auto)]
 
 ghost use Rattle.std.specs.Prelude.{◌≡◌, ◌<◌, ◌≤◌, length};
-ghost use Rattle.models.specs.Problem.{problem};
-ghost use Rattle.plan.specs.Plan.{split};
-ghost use Rattle.route_cost.specs.Route.{cost};
-ghost use Rattle.pool_cost.specs.Attempt.{attempt};
-ghost use Rattle.ejection_pool.specs.Running.{allowance};
-ghost use Rattle.local_search.specs.Search.{but_last};
-ghost use Rattle.pool_attempt.specs.Judged.{tried};
+ghost use Rattle.route_without.specs.models.Problem.{problem};
+ghost use Rattle.plan_copy.specs.plan.Plan.{split};
+ghost use Rattle.route_without.specs.route_cost.Route.{cost};
+ghost use Rattle.route_without.specs.pool_cost.Attempt.{attempt};
+ghost use Rattle.route_without.specs.ejection_pool.Running.{allowance};
+ghost use Rattle.route_without.specs.local_search.Search.{but_last};
+ghost use Rattle.route_without.specs.pool_attempt.Judged.{tried};
 ghost use Rattle.route_without.specs.Attempting.{Attempting};
 ghost use Rattle.route_attempt.specs.Leaves.{Leaves};
 
-use local_search::rounds::Counts;
-use models::vehicle::Vehicle;
+use route_without::Counts;
+use route_without::Vehicle;
 use plan_copy::{restore, save};
-use pool_attempt::Attempted;
+
 use route_without::try_without;
+
+// Of the crates below, passed on to those above.
+pub use plan_copy::drop_empty;
+pub use route_without::Attempted;
 
 // The attempt at route r of a plan that costs `before`. Where the plan is kept both slices are as they were; the first work cells hold them meanwhile.
 pub fn attempt(

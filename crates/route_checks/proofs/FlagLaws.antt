@@ -5,8 +5,8 @@ use mathlib.Core.Path.{◌≡◌, refl, sym, ◌∙◌}
 use mathlib.Core.Bool.{Bool, true, false}
 use mathlib.Core.List.{List}
 use lib.ListN.{length, get_or, drop}
-use Rattle.laws.specs.Searches.{any, any_skip, any_hit, any_end}
-use Rattle.models.specs.Customer.{windowed}
+use Rattle.evaluation.specs.laws.Searches.{any, any_skip, any_hit, any_end}
+use Rattle.evaluation.specs.models.Customer.{windowed}
 use Rattle.evaluation.specs.Check.{soft, has_time_windows, has_soft_windows}
 
 -- none before i has passed

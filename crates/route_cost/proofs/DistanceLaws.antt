@@ -10,9 +10,9 @@ use lib.Ieee.{Float}
 use mir.Syntax.{w64}
 use mir.Val.{Fits}
 use borrow.Author.Rules.{rules}
-use Rattle.floats.specs.Binary64.{◌⊕◌, 0f}
-use Rattle.models.specs.Problem.{DistanceMatrix, matrix, Stops}
-use Rattle.distance.specs.Matrix.{get, cell}
+use Rattle.evaluation_laws.specs.floats.Binary64.{◌⊕◌, 0f}
+use Rattle.evaluation_laws.specs.models.Problem.{DistanceMatrix, matrix, Stops}
+use Rattle.evaluation_laws.specs.distance.Matrix.{get, cell}
 use Rattle.route_cost.specs.Route.{legs, route_distance}
 
 -- ---- a route: what has come so far, and the legs that are left

@@ -6,8 +6,8 @@ use mathlib.Core.List.{List, []}
 use lib.ListN.{length, get_or, take, drop}
 use mir.Syntax.{w64}
 use mir.Val.{Fits}
-use Rattle.laws.specs.All.{All, all_get}
-use Rattle.models.specs.Problem.{Stops}
+use Rattle.plan.specs.laws.All.{All, all_get}
+use Rattle.evaluation_laws.specs.models.Problem.{Stops}
 use Rattle.plan.specs.Plan.{Lent, split, route, total, offset}
 use Rattle.plan.specs.Slices.{length_split, offset_more, route_within, route_part}
 

@@ -1,11 +1,11 @@
 -- The distance of a route, what an insertion adds to it, and the cost of a plan. Assumes nothing.
 use Rattle.std.specs.Prelude.{ℕ, ◌-◌, List, [], ◌∷◌, cond, length, get_or, eqb, ltb, Float}
 use Rattle.std.proofs.Math.Option.{Option, none, some}
-use Rattle.floats.specs.Binary64.{◌⊕◌, ◌⊖◌, ◌⊗◌, 0f, 1e-12}
-use Rattle.laws.specs.Loops.{foldl}
-use Rattle.models.specs.Vehicle.{fixed_cost_in_distance}
-use Rattle.models.specs.Problem.{DistanceMatrix, Problem}
-use Rattle.distance.specs.Matrix.{get, scale}
+use Rattle.evaluation_laws.specs.floats.Binary64.{◌⊕◌, ◌⊖◌, ◌⊗◌, 0f, 1e-12}
+use Rattle.plan.specs.laws.Loops.{foldl}
+use Rattle.evaluation_laws.specs.models.Vehicle.{fixed_cost_in_distance}
+use Rattle.evaluation_laws.specs.models.Problem.{DistanceMatrix, Problem}
+use Rattle.evaluation_laws.specs.distance.Matrix.{get, scale}
 use Rattle.plan.specs.Plan.{Plan}
 use Rattle.route_cost.specs.declared.Insertion.{Insertion}
 use Rattle.route_cost.specs.declared.Best.{Best}

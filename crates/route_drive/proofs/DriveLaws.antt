@@ -5,25 +5,25 @@ use mathlib.Core.Bool.{Bool, true, false}
 use mathlib.Core.List.{List}
 use lib.ListN.{length, get_or}
 use lib.Ieee.{Float}
-use Rattle.floats.specs.Binary64.{◌⊕◌}
-use Rattle.laws.specs.Walks.{Walking, walking_start, walking_on, walking_stuck, walking_end}
-use Rattle.models.specs.declared.customer.Customer.{Customer}
-use Rattle.models.specs.declared.limits.RouteLimits.{RouteLimits}
-use Rattle.models.specs.Customer.{Customers, customer_at}
-use Rattle.models.specs.RouteLimits.{allow}
-use Rattle.models.specs.Problem.{DistanceMatrix, Fit, Stops}
-use Rattle.distance.specs.Matrix.{get, travel_time}
-use Rattle.break_clock.specs.declared.route_eval.Eval.TheVariants.{Infeasible}
-use Rattle.evaluation.specs.declared.eval.Walk.{Walk}
-use Rattle.evaluation.specs.declared.eval.Walked.{Walked}
-use Rattle.evaluation.specs.declared.eval.Walked.TheVariants.{Late, At as WalkAt}
-use Rattle.labels.specs.declared.Taken.TheVariants.{No as NotTaken}
-use Rattle.labels.specs.declared.Label.{Label}
-use Rattle.labels.specs.declared.Served.{Served}
-use Rattle.labels.specs.declared.Served.TheVariants.{Dead, Live}
-use Rattle.labels.specs.Labels.{serve_at}
-use Rattle.break_clock.specs.Schedule.{ended}
-use Rattle.evaluation.specs.Eval.{walked, drive, onward, drive_all, home}
+use Rattle.trial_route.specs.floats.Binary64.{◌⊕◌}
+use Rattle.trial_route.specs.laws.Walks.{Walking, walking_start, walking_on, walking_stuck, walking_end}
+use Rattle.trial_route.specs.models.declared.customer.Customer.{Customer}
+use Rattle.trial_route.specs.models.declared.limits.RouteLimits.{RouteLimits}
+use Rattle.trial_route.specs.models.Customer.{Customers, customer_at}
+use Rattle.trial_route.specs.models.RouteLimits.{allow}
+use Rattle.trial_route.specs.models.Problem.{DistanceMatrix, Fit, Stops}
+use Rattle.trial_route.specs.distance.Matrix.{get, travel_time}
+use Rattle.trial_route.specs.break_clock.declared.route_eval.Eval.TheVariants.{Infeasible}
+use Rattle.trial_route.specs.evaluation.declared.eval.Walk.{Walk}
+use Rattle.trial_route.specs.evaluation.declared.eval.Walked.{Walked}
+use Rattle.trial_route.specs.evaluation.declared.eval.Walked.TheVariants.{Late, At as WalkAt}
+use Rattle.trial_route.specs.labels.declared.Taken.TheVariants.{No as NotTaken}
+use Rattle.trial_route.specs.labels.declared.Label.{Label}
+use Rattle.trial_route.specs.labels.declared.Served.{Served}
+use Rattle.trial_route.specs.labels.declared.Served.TheVariants.{Dead, Live}
+use Rattle.trial_route.specs.labels.Labels.{serve_at}
+use Rattle.trial_route.specs.break_clock.Schedule.{ended}
+use Rattle.trial_route.specs.evaluation.Eval.{walked, drive, onward, drive_all, home}
 
 -- ---- one stop
 

@@ -2,16 +2,40 @@
 #![tactic(auto)]
 
 ghost use Rattle.std.specs.Prelude.{◌≡◌, ◌<◌};
-ghost use Rattle.models.specs.Customer.{customers};
-ghost use Rattle.models.specs.Problem.{matrix, Square, Fit, Stops};
-ghost use Rattle.evaluation.specs.Eval.{drive, drive_all, home};
+ghost use Rattle.trial_route.specs.models.Customer.{customers};
+ghost use Rattle.trial_route.specs.models.Problem.{matrix, Square, Fit, Stops};
+ghost use Rattle.trial_route.specs.evaluation.Eval.{drive, drive_all, home};
 
-use break_clock::route_eval::{Eval, RouteEval};
-use distance::{get, travel_time};
-use evaluation::eval::{Walk, Walked};
-use labels::{Served, Taken, serve_at};
-use models::limits::RouteLimits;
-use place_record::customer_at;
+use trial_route::RouteEval;
+use trial_route::get;
+use trial_route::travel_time;
+
+use trial_route::Served;
+use trial_route::Taken;
+use trial_route::serve_at;
+
+use trial_route::customer_at;
+
+// Of the crates below, passed on to those above.
+pub use trial_route::infinity;
+pub use trial_route::is_finite;
+pub use trial_route::max;
+pub use trial_route::total_less;
+pub use trial_route::Penalty;
+pub use trial_route::Window;
+pub use trial_route::RouteLimits;
+pub use trial_route::Rest;
+pub use trial_route::Vehicle;
+pub use trial_route::VehicleBreak;
+pub use trial_route::penalty_at;
+pub use trial_route::window_at;
+pub use trial_route::largest;
+pub use trial_route::Eval;
+pub use trial_route::break_schedule_schedule;
+pub use trial_route::Walk;
+pub use trial_route::Walked;
+pub use trial_route::limited;
+pub use trial_route::has_soft_windows;
 
 // The drive to the next stop and the service there.
 pub fn drive(

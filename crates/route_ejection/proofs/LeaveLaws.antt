@@ -8,13 +8,13 @@ use mathlib.Core.List.{List}
 use mathlib.Core.Option.{Option}
 use lib.ListN.{length, take, drop}
 use lib.Ieee.{Float}
-use Rattle.laws.specs.Loops.{loop, loop_none, loop_more, loop_end}
-use Rattle.models.specs.Problem.{Problem, Stops}
-use Rattle.plan.specs.Plan.{route}
-use Rattle.ejection.specs.declared.Ejection.{Ejection}
-use Rattle.ejection.specs.declared.Best.{Best}
-use Rattle.ejection.specs.Eject.{kept, failure_sum, chosen, fails_more, try_left, try_out, try_one, try_two_from, try_two}
-use Rattle.ejection.specs.Asked.{Counted, Sought, kept_length}
+use Rattle.ejection_positions.specs.laws.Loops.{loop, loop_none, loop_more, loop_end}
+use Rattle.ejection_positions.specs.models.Problem.{Problem, Stops}
+use Rattle.ejection_positions.specs.plan.Plan.{route}
+use Rattle.ejection_positions.specs.ejection.declared.Ejection.{Ejection}
+use Rattle.ejection_positions.specs.ejection.declared.Best.{Best}
+use Rattle.ejection_positions.specs.ejection.Eject.{kept, failure_sum, chosen, fails_more, try_left, try_out, try_one, try_two_from, try_two}
+use Rattle.ejection_positions.specs.ejection.Asked.{Counted, Sought, kept_length}
 
 -- ---- who leaves
 

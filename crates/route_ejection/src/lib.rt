@@ -2,13 +2,23 @@
 #![tactic(auto)]
 
 ghost use Rattle.std.specs.Prelude.{◌≡◌, ◌<◌, ◌≤◌, length};
-ghost use Rattle.models.specs.Problem.{problem};
-ghost use Rattle.ejection.specs.Eject.{chosen, try_out, try_one, try_two_from, try_two};
-ghost use Rattle.ejection.specs.Asked.{Sought};
+ghost use Rattle.ejection_positions.specs.models.Problem.{problem};
+ghost use Rattle.ejection_positions.specs.ejection.Eject.{chosen, try_out, try_one, try_two_from, try_two};
+ghost use Rattle.ejection_positions.specs.ejection.Asked.{Sought};
 
-use ejection::{Best, fails_more, failure_sum, keep};
+use ejection_positions::EjectionBest as Best;
+use ejection_positions::fails_more;
+use ejection_positions::failure_sum;
+use ejection_positions::keep;
 use ejection_positions::{Out, try_left};
-use models::vehicle::Vehicle;
+
+// Of the crates below, passed on to those above.
+pub use ejection_positions::Vehicle;
+pub use ejection_positions::within_capacity;
+pub use ejection_positions::checked;
+pub use ejection_positions::feasible;
+pub use ejection_positions::EjectionBest;
+
 
 // The stops at i and j leave route k: first their failures alone, then what is kept.
 fn try_out(

@@ -4,21 +4,21 @@ use mathlib.Core.Path.{◌≡◌, refl, ap, subst, ◌∙◌}
 use mathlib.Core.List.{List, ◌++◌}
 use native.Mathlib.Omega.{arith}
 use lib.ListN.{length, take, drop}
-use Rattle.models.specs.Problem.{Problem, Admitted}
-use Rattle.route_order.specs.declared.Pick.{Pick}
-use Rattle.plan.specs.Plan.{Plan, split}
-use Rattle.route_order.specs.Order.{following}
-use Rattle.local_search.specs.declared.rounds.Counts.{Counts}
-use Rattle.local_search.specs.declared.rounds.Next.{Next}
-use Rattle.local_search.specs.declared.rounds.Next.TheVariants.{Kept, Accepted as Took}
-use Rattle.local_search.specs.Rounds.{reduce, try_each}
-use Rattle.local_search.specs.Reduced.{Bounded}
-use Rattle.local_search.specs.Search.{but_last, NextLeaves, Answers, tried_next, uncounted, left_with}
-use Rattle.local_search.proofs.RoundLaws.{rounds_of}
-use Rattle.local_search.proofs.SearchLaws.{Rounding, Trying, trying_whole, trying_few, trying_routes_few, trying_planned, refused, taken, after_kept, after_accepted}
-use Rattle.elimination_moves.specs.Eliminate.{attempt, eliminate_routes}
+use Rattle.elimination_round.specs.models.Problem.{Problem, Admitted}
+use Rattle.elimination_round.specs.route_order.declared.Pick.{Pick}
+use Rattle.elimination_round.specs.plan.Plan.{Plan, split}
+use Rattle.elimination_round.specs.route_order.Order.{following}
+use Rattle.elimination_round.specs.local_search.declared.rounds.Counts.{Counts}
+use Rattle.elimination_round.specs.local_search.declared.rounds.Next.{Next}
+use Rattle.elimination_round.specs.local_search.declared.rounds.Next.TheVariants.{Kept, Accepted as Took}
+use Rattle.elimination_round.specs.local_search.Rounds.{reduce, try_each}
+use Rattle.elimination_round.specs.local_search.Reduced.{Bounded}
+use Rattle.elimination_round.specs.local_search.Search.{but_last, NextLeaves, Answers, tried_next, uncounted, left_with}
+use Rattle.elimination_round.proofs.of_local_search.RoundLaws.{rounds_of}
+use Rattle.elimination_round.proofs.of_local_search.SearchLaws.{Rounding, Trying, trying_whole, trying_few, trying_routes_few, trying_planned, refused, taken, after_kept, after_accepted}
+use Rattle.elimination_round.specs.elimination_moves.Eliminate.{attempt, eliminate_routes}
 use Rattle.elimination_round.specs.Eliminating.{Eliminating}
-use Rattle.elimination_moves.specs.Eliminated.{attempt_reduces}
+use Rattle.elimination_round.specs.elimination_moves.Eliminated.{attempt_reduces}
 
 -- ---- the loops
 

@@ -3,20 +3,25 @@
 #![tactic(auto)]
 
 ghost use Rattle.std.specs.Prelude.{length};
-ghost use Rattle.models.specs.Problem.{problem};
-ghost use Rattle.plan.specs.Plan.{split};
-ghost use Rattle.local_search.specs.Search.{Answers, uncounted, left_with};
-ghost use Rattle.elimination_moves.specs.Eliminate.{eliminate_routes};
+ghost use Rattle.elimination_round.specs.models.Problem.{problem};
+ghost use Rattle.elimination_round.specs.plan.Plan.{split};
+ghost use Rattle.elimination_round.specs.local_search.Search.{Answers, uncounted, left_with};
+ghost use Rattle.elimination_round.specs.elimination_moves.Eliminate.{eliminate_routes};
 ghost use Rattle.elimination_round.specs.Eliminating.{Eliminating};
 
 use elimination_round::try_next;
-use local_search::feasible::constrained;
-use local_search::rounds::Next;
-use models::vehicle::Vehicle;
-use route_checks::has_soft_windows;
-use route_cost::gain_floor;
-use route_order::Pick;
-use route_removal::drop_empty;
+use elimination_round::constrained;
+use elimination_round::LocalSearchNext as Next;
+
+use elimination_round::has_soft_windows;
+use elimination_round::route_cost_gain_floor as gain_floor;
+use elimination_round::Pick;
+use elimination_round::drop_empty;
+
+// Of the crates below, passed on to those above.
+pub use elimination_round::Vehicle;
+pub use elimination_round::Counts;
+pub use elimination_round::Reduction;
 
 // `eliminate_routes`: rounds of attempts, begun again from the shortest route as soon as one is accepted. How many routes are left.
 pub fn eliminate_routes(

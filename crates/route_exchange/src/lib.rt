@@ -2,9 +2,15 @@
 #![tactic(auto)]
 
 ghost use Rattle.std.specs.Prelude.{◌≡◌, ◌≤◌, ◌<◌, length};
-ghost use Rattle.plan.specs.Plan.{Holds, Lent, HasPosition, split, total, exchange_tails};
+ghost use Rattle.exchanged_stops.specs.plan.Plan.{Holds, Lent, HasPosition, split, total, exchange_tails};
 
-use plan::offset;
+// Of the crates below, passed on to those above.
+pub use exchanged_stops::clear;
+pub use exchanged_stops::copy_part;
+pub use exchanged_stops::cut;
+pub use exchanged_stops::offset;
+
+
 
 // The tail of route a from i and the tail of route b from j, a later one, are exchanged.
 fn exchange_in_order(
@@ -24,7 +30,7 @@ fn exchange_in_order(
     let n = lengths[b] as usize;
     let p = offset(lengths, a);
     let q = offset(lengths, b);
-    cell_exchange::swap_parts(stops, work, p + i, p + m, q + j, q + n);
+    exchanged_stops::swap_parts(stops, work, p + i, p + m, q + j, q + n);
     lengths[a] = (i + (n - j)) as u16;
     lengths[b] = (j + (m - i)) as u16;
 }

@@ -7,14 +7,14 @@ use mathlib.Core.Option.{Option}
 use lib.ListN.{length}
 use lib.IntN.{ℤ}
 use lib.Ieee.{Float}
-use Rattle.laws.specs.Loops.{loop, loop_same}
-use Rattle.models.specs.declared.vehicle.Vehicle.{Vehicle}
-use Rattle.models.specs.Problem.{Problem, problem, of_demand}
-use Rattle.route_cost.specs.declared.Insertion.{Insertion}
-use Rattle.route_load.specs.Feasible.{has_room}
-use Rattle.local_search.proofs.ReadLaws.{room_any}
-use Rattle.quick_test.specs.Quick.{Times, times as times-along}
-use Rattle.route_times.specs.Prepared.{held, Prepared, prepared_missed, prepared_read, prepared_any}
+use Rattle.insertion.specs.laws.Loops.{loop, loop_same}
+use Rattle.insertion.specs.models.declared.vehicle.Vehicle.{Vehicle}
+use Rattle.insertion.specs.models.Problem.{Problem, problem, of_demand}
+use Rattle.insertion.specs.route_cost.declared.Insertion.{Insertion}
+use Rattle.insertion.specs.route_load.Feasible.{has_room}
+use Rattle.insertion.proofs.of_local_search.ReadLaws.{room_any}
+use Rattle.insertion.specs.quick_test.Quick.{Times, times as times-along}
+use Rattle.insertion.specs.route_times.Prepared.{held, Prepared, prepared_missed, prepared_read, prepared_any}
 use Rattle.insertion.specs.Cheapest.{try_position, try_positions, try_route}
 use Rattle.insertion.specs.Pass.{may_pass_any, pass_position, pass_position_room, try_position_untimed}
 

@@ -3,21 +3,27 @@
 #![tactic(auto)]
 
 ghost use Rattle.std.specs.Prelude.{◌≡◌, [], suc, ◌<◌, ◌≤◌, length};
-ghost use Rattle.laws.specs.Loops.{loop};
-ghost use Rattle.models.specs.Customer.{customers};
-ghost use Rattle.models.specs.RouteLimits.{limits_of};
-ghost use Rattle.models.specs.Problem.{matrix, problem, Fit, Stops, Admitted};
-ghost use Rattle.evaluation.specs.Check.{route_checks_needed};
-ghost use Rattle.route_cost.specs.Route.{chosen};
-ghost use Rattle.route_times.specs.Prepared.{held};
+ghost use Rattle.insertion.specs.laws.Loops.{loop};
+ghost use Rattle.insertion.specs.models.Customer.{customers};
+ghost use Rattle.insertion.specs.models.RouteLimits.{limits_of};
+ghost use Rattle.insertion.specs.models.Problem.{matrix, problem, Fit, Stops, Admitted};
+ghost use Rattle.insertion.specs.evaluation.Check.{route_checks_needed};
+ghost use Rattle.insertion.specs.route_cost.Route.{chosen};
+ghost use Rattle.insertion.specs.route_times.Prepared.{held};
 ghost use Rattle.insertion.specs.Cheapest.{try_route};
 ghost use Rattle.insertion.specs.Pass.{pass_position};
 
 use insertion::try_position;
-use models::vehicle::Vehicle;
-use route_cost::Best;
-use route_load::has_room;
-use route_times::prepare;
+
+use insertion::RouteCostBest as Best;
+use insertion::has_room;
+use insertion::prepare;
+
+// Of the crates below, passed on to those above.
+pub use insertion::Vehicle;
+pub use insertion::put_in;
+pub use insertion::RouteCostBest;
+pub use insertion::Counts;
 
 // Every position of route k, which has room for c, its end too.
 fn try_positions(

@@ -11,14 +11,14 @@ use mir.Syntax.{w32}
 use mir.Val.{SFits, to_z, of_z}
 use mir.ValLaws.{to_z-of_z}
 use borrow.Author.Rules.{rules}
-use Rattle.laws.specs.Ints.{nat_abs_add, sfits_abs}
-use Rattle.laws.specs.Loops.{foldl, fold_more, fold_end}
-use Rattle.laws.specs.Edits.{insert_at}
-use Rattle.models.specs.declared.limits.RouteLimits.{RouteLimits}
-use Rattle.models.specs.declared.vehicle.Vehicle.{Vehicle}
-use Rattle.models.specs.Customer.{Customers}
-use Rattle.models.specs.Problem.{DistanceMatrix, Problem, of_demand, Demands, Stops}
-use Rattle.evaluation.specs.Check.{route_feasible}
+use Rattle.route_cost.specs.laws.Ints.{nat_abs_add, sfits_abs}
+use Rattle.route_cost.specs.laws.Loops.{foldl, fold_more, fold_end}
+use Rattle.route_cost.specs.laws.Edits.{insert_at}
+use Rattle.route_cost.specs.models.declared.limits.RouteLimits.{RouteLimits}
+use Rattle.route_cost.specs.models.declared.vehicle.Vehicle.{Vehicle}
+use Rattle.route_cost.specs.models.Customer.{Customers}
+use Rattle.route_cost.specs.models.Problem.{DistanceMatrix, Problem, of_demand, Demands, Stops}
+use Rattle.route_cost.specs.evaluation.Check.{route_feasible}
 use Rattle.route_load.specs.Feasible.{demand_at, load, fits, has_room, checked, feasible}
 use Rattle.route_load.specs.RouteLaws.{has_room_fits}
 

@@ -1,10 +1,10 @@
 -- The load and the check of a route: whether it is feasible. Assumes nothing.
 use Rattle.std.specs.Prelude.{ℕ, List, ◌≡◌, Bool, true, not, ◌&&◌, ◌||◌, get_or, ℤ, pos, ◌+ℤ◌}
 use Rattle.std.specs.Int.Signed.{le_z}
-use Rattle.laws.specs.Loops.{foldl}
-use Rattle.models.specs.RouteLimits.{limits_of}
-use Rattle.models.specs.Problem.{Problem, depot}
-use Rattle.evaluation.specs.Check.{route_checks_needed, route_feasible}
+use Rattle.route_cost.specs.laws.Loops.{foldl}
+use Rattle.route_cost.specs.models.RouteLimits.{limits_of}
+use Rattle.route_cost.specs.models.Problem.{Problem, depot}
+use Rattle.route_cost.specs.evaluation.Check.{route_checks_needed, route_feasible}
 
 -- ---- load
 

@@ -3,3 +3,11 @@
 pub mod Feasible
 -- loads, and the check where it is not needed
 pub mod RouteLaws
+-- crates below, passed on to those above
+pub use Rattle.route_cost.specs.floats as floats
+pub use Rattle.route_cost.specs.models as models
+pub use Rattle.route_cost.specs.distance as distance
+pub use Rattle.route_cost.specs.labels as labels
+pub use Rattle.route_cost.specs.break_clock as break_clock
+pub use Rattle.route_cost.specs.evaluation as evaluation
+pub use Rattle.route_cost.specs as route_cost

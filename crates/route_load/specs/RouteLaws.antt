@@ -10,16 +10,16 @@ use Rattle.std.proofs.Math.IntN.{+ℤ_idl, +ℤ_idr, +ℤ_assoc, +ℤ_comm}
 use Rattle.std.specs.Float.{binary64}
 use Rattle.std.specs.Float.Ieee.{of_bits, fits as is-f64}
 use Rattle.std.specs.Float.Ieee.Fits.{add-fits}
-use Rattle.floats.specs.Binary64.{◌⊕◌, 0f, -0f}
-use Rattle.floats.specs.Plain.{plain, add_zero_left, add_minus_zero_left}
-use Rattle.laws.specs.Edits.{insert_at}
-use Rattle.laws.specs.Loops.{foldl}
-use Rattle.laws.specs.Searches.{and_first, and_second}
-use Rattle.models.specs.Vehicle.{fixed_cost_in_distance}
-use Rattle.models.specs.RouteLimits.{limits_of}
-use Rattle.models.specs.Problem.{Problem, depot}
-use Rattle.plan.specs.Plan.{Plan}
-use Rattle.evaluation_laws.proofs.Agreement.{unneeded_passes}
+use Rattle.route_cost.specs.floats.Binary64.{◌⊕◌, 0f, -0f}
+use Rattle.route_cost.specs.floats.Plain.{plain, add_zero_left, add_minus_zero_left}
+use Rattle.route_cost.specs.laws.Edits.{insert_at}
+use Rattle.route_cost.specs.laws.Loops.{foldl}
+use Rattle.route_cost.specs.laws.Searches.{and_first, and_second}
+use Rattle.route_cost.specs.models.Vehicle.{fixed_cost_in_distance}
+use Rattle.route_cost.specs.models.RouteLimits.{limits_of}
+use Rattle.route_cost.specs.models.Problem.{Problem, depot}
+use Rattle.route_cost.specs.plan.Plan.{Plan}
+use Rattle.route_cost.proofs.of_evaluation_laws.Agreement.{unneeded_passes}
 use Rattle.route_cost.specs.Route.{route_distance, cost}
 use Rattle.route_load.specs.Feasible.{Sound, demand_at, load, fits, has_room, constrained, passes, checked, feasible}
 

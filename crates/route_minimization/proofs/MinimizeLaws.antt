@@ -5,17 +5,17 @@ use mathlib.Core.Bool.{Bool, true, false}
 use mathlib.Core.List.{List}
 use native.Mathlib.Omega.{arith}
 use lib.ListN.{length}
-use Rattle.models.specs.Problem.{Problem}
-use Rattle.evaluation.specs.Check.{has_soft_windows}
-use Rattle.plan.specs.Plan.{split, flat, lengths_of, total, padded}
-use Rattle.plan.specs.Slices.{length_split, lengths_split, flat_split_all}
-use Rattle.plan.specs.Dropped.{padded_full}
-use Rattle.local_search.specs.declared.rounds.Counts.{Counts}
-use Rattle.local_search.specs.Rounds.{reduce}
-use Rattle.local_search.specs.Search.{Answers}
-use Rattle.ejection_pool.specs.Pool.{Allowance}
-use Rattle.pool_cost.specs.Attempt.{attempt}
-use Rattle.minimization.specs.Minimize.{minimize_routes}
+use Rattle.minimization_search.specs.models.Problem.{Problem}
+use Rattle.minimization_search.specs.evaluation.Check.{has_soft_windows}
+use Rattle.minimization_search.specs.plan.Plan.{split, flat, lengths_of, total, padded}
+use Rattle.minimization_search.specs.plan.Slices.{length_split, lengths_split, flat_split_all}
+use Rattle.minimization_search.specs.plan.Dropped.{padded_full}
+use Rattle.minimization_search.specs.local_search.declared.rounds.Counts.{Counts}
+use Rattle.minimization_search.specs.local_search.Rounds.{reduce}
+use Rattle.minimization_search.specs.local_search.Search.{Answers}
+use Rattle.minimization_search.specs.ejection_pool.Pool.{Allowance}
+use Rattle.minimization_search.specs.pool_cost.Attempt.{attempt}
+use Rattle.minimization_search.specs.minimization.Minimize.{minimize_routes}
 
 module _ (given : Allowance) (p : Problem) (ls s : List ℕ) (v : Bool) (e : v ≡ has_soft_windows p.places.flags) where
   pub soft_answers : total ls ≡ length s → v ≡ true → Answers (minimize_routes given p (split ls s)) (length ls) (length ls) (record { steps = 0; draws = 0 }) ls s

@@ -2,18 +2,23 @@
 #![tactic(auto)]
 
 ghost use Rattle.std.specs.Prelude.{length};
-ghost use Rattle.models.specs.Problem.{problem};
-ghost use Rattle.plan.specs.Plan.{split};
-ghost use Rattle.local_search.specs.Search.{Answers};
-ghost use Rattle.minimization.specs.Minimize.{minimize_routes};
-ghost use Rattle.ejection_pool.specs.Running.{allowance};
+ghost use Rattle.minimization_search.specs.models.Problem.{problem};
+ghost use Rattle.minimization_search.specs.plan.Plan.{split};
+ghost use Rattle.minimization_search.specs.local_search.Search.{Answers};
+ghost use Rattle.minimization_search.specs.minimization.Minimize.{minimize_routes};
+ghost use Rattle.minimization_search.specs.ejection_pool.Running.{allowance};
 ghost use Rattle.minimization_search.specs.Minimizing.{Searching};
 
-use local_search::feasible::constrained;
-use local_search::rounds::{Counts, Reduction};
+use minimization_search::constrained;
+use minimization_search::Counts;
+use minimization_search::Reduction;
 use minimization_search::search;
-use models::vehicle::Vehicle;
-use route_checks::has_soft_windows;
+
+use minimization_search::has_soft_windows;
+
+// Of the crates below, passed on to those above.
+pub use minimization_search::Vehicle;
+pub use minimization_search::rounds;
 
 // `minimize_routes`: with a soft window the plan comes back as given, otherwise with as many routes fewer as the attempts find.
 pub fn minimize_routes(

@@ -7,7 +7,7 @@ use native.Mathlib.Omega.{arith}
 use lib.ListN.{length, get_or}
 use lib.Dec.{ltb}
 use borrow.Author.Tests.{eq-eqb, ne_eqb, lt-ltb, le-ltb}
-use Rattle.laws.specs.Loops.{loop, loop_none, loop_more, loop_end}
+use Rattle.plan.specs.laws.Loops.{loop, loop_none, loop_more, loop_end}
 use Rattle.route_order.specs.declared.Pick.{Pick}
 use Rattle.route_order.specs.declared.Pick.TheVariants.{Nothing, At}
 use Rattle.route_order.specs.Order.{is_after, shorter, considered, next_pick}

@@ -1,8 +1,8 @@
 -- The order and the next pick computed on four routes. Assumes nothing.
 use Rattle.std.specs.Prelude.{◌≡◌, refl, [], ◌∷◌}
-use Rattle.laws.specs.Edits.{erase}
-use Rattle.laws.specs.Loops.{loop}
-use Rattle.laws.specs.Sorts.{range, least_at, smallest, sort_by}
+use Rattle.plan.specs.laws.Edits.{erase}
+use Rattle.plan.specs.laws.Loops.{loop}
+use Rattle.plan.specs.laws.Sorts.{range, least_at, smallest, sort_by}
 use Rattle.route_order.specs.declared.Pick.TheVariants.{At}
 use Rattle.route_order.specs.Order.{order, is_after, shorter, considered, next_pick}
 

@@ -10,11 +10,11 @@ use Rattle.std.proofs.Math.Bool.{true, false, cond}
 use Rattle.std.proofs.Math.ListN.{get_or}
 use Rattle.std.proofs.Math.Dec.{eqb, ltb}
 use borrow.Author.Tests.{eq-eqb, ne_eqb, eqb-true, eqb-false, lt-ltb, le-ltb, ltb-true, ltb-false}
-use Rattle.laws.specs.All.{All, all_get, all_of, all_map}
-use Rattle.laws.specs.Edits.{erase}
-use Rattle.laws.specs.Keeps.{keep, keep_all, keep_none, keep_passes, keep_both, keep_same, all_keep, all_kept}
-use Rattle.laws.specs.Loops.{loop_rule, up_to}
-use Rattle.laws.specs.Sorts.{range, least_at, smallest, sort_by, length_sort_by, sort_by_cons, least_key, Least, get_range, length_range, all_range, rising_range, rising_order, rising_erase}
+use Rattle.plan.specs.laws.All.{All, all_get, all_of, all_map}
+use Rattle.plan.specs.laws.Edits.{erase}
+use Rattle.plan.specs.laws.Keeps.{keep, keep_all, keep_none, keep_passes, keep_both, keep_same, all_keep, all_kept}
+use Rattle.plan.specs.laws.Loops.{loop_rule, up_to}
+use Rattle.plan.specs.laws.Sorts.{range, least_at, smallest, sort_by, length_sort_by, sort_by_cons, least_key, Least, get_range, length_range, all_range, rising_range, rising_order, rising_erase}
 use Rattle.route_order.specs.declared.Pick.{Pick}
 use Rattle.route_order.specs.declared.Pick.TheVariants.{Nothing, At}
 use Rattle.route_order.specs.Order.{by_length, order, is_after, shorter, considered, next_pick, following, picked_then, repeated}

@@ -5,3 +5,6 @@ pub mod Order
 pub mod Examples
 -- repeated picks are the order
 pub mod Following
+-- crates below, passed on to those above
+pub use Rattle.plan.specs.laws as laws
+pub use Rattle.plan.specs as plan

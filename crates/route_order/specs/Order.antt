@@ -1,8 +1,8 @@
 -- The routes by length, stable ("take routes by length, stable"), and the pick that comes next after a pick. Assumes nothing.
 use Rattle.std.specs.Prelude.{ℕ, zero, suc, Bool, true, cond, List, [], ◌∷◌, length, get_or, eqb, ltb}
-use Rattle.laws.specs.Loops.{loop}
-use Rattle.laws.specs.Keeps.{keep}
-use Rattle.laws.specs.Sorts.{range, sort_by}
+use Rattle.plan.specs.laws.Loops.{loop}
+use Rattle.plan.specs.laws.Keeps.{keep}
+use Rattle.plan.specs.laws.Sorts.{range, sort_by}
 use Rattle.route_order.specs.declared.Pick.{Pick}
 use Rattle.route_order.specs.declared.Pick.TheVariants.{Nothing, At}
 

@@ -7,8 +7,8 @@ use lib.ListN.{length, take, drop, get_or, length-drop}
 use lib.Seq.{paste, take-suc, take_at, length-take-le}
 use mir.Syntax.{w64}
 use mir.Val.{Fits}
-use Rattle.plan.specs.Plan.{Lent, split, route, offset}
-use Rattle.plan.specs.Slices.{route_within, route_split}
+use Rattle.ejection_made.specs.plan.Plan.{Lent, split, route, offset}
+use Rattle.ejection_made.specs.plan.Slices.{route_within, route_split}
 use Rattle.ejection_made.specs.Made.{stack}
 
 -- the pool is the front of its cells, the last of them on top

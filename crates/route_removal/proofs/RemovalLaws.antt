@@ -9,11 +9,11 @@ use lib.ListN.{length, take, drop, get_or, set, replicate, length-set, length-dr
 use lib.Seq.{take-length, take_all, take-suc, drop-cons, set_at, take-set-le, take-suc-set, drop-set-lt, length-take-le, drop-drop, get_or-drop}
 use lib.Dec.{eqb, eqb-suc-zero}
 use borrow.Author.Tests.{eq-eqb, ne_eqb}
-use Rattle.laws.specs.Edits.{erase, cut, cut_one, length_erase}
-use Rattle.laws.specs.Keeps.{keep, keep_append}
-use Rattle.plan.specs.Plan.{Holds, Lent, split, total, offset, padded, drop_zero}
-use Rattle.plan.specs.Slices.{offset_all}
-use Rattle.plan.specs.Routes.{erase_slices}
+use Rattle.route_exchange.specs.laws.Edits.{erase, cut, cut_one, length_erase}
+use Rattle.route_exchange.specs.laws.Keeps.{keep, keep_append}
+use Rattle.route_exchange.specs.plan.Plan.{Holds, Lent, split, total, offset, padded, drop_zero}
+use Rattle.route_exchange.specs.plan.Slices.{offset_all}
+use Rattle.route_exchange.specs.plan.Routes.{erase_slices}
 
 -- ---- `erase_route`
 

@@ -2,10 +2,14 @@
 #![tactic(auto)]
 
 ghost use Rattle.std.specs.Prelude.{◌≡◌, ◌∷◌, ◌++◌, [], ◌-◌, ◌<◌, length, get_or};
-ghost use Rattle.laws.specs.Edits.{erase};
-ghost use Rattle.plan.specs.Plan.{Holds, Lent, split, total, padded, drop_zero};
+ghost use Rattle.route_exchange.specs.laws.Edits.{erase};
+ghost use Rattle.route_exchange.specs.plan.Plan.{Holds, Lent, split, total, padded, drop_zero};
 
-use plan::offset;
+// Of the crates below, passed on to those above.
+pub use route_exchange::copy_part;
+pub use route_exchange::offset;
+
+
 
 // Route k is taken out: every later length moves one place left and the last becomes 0, every later stop moves left by the route's length.
 pub fn erase_route(lengths: &mut [u16], stops: &mut [u16], k: usize)
@@ -18,8 +22,8 @@ pub fn erase_route(lengths: &mut [u16], stops: &mut [u16], k: usize)
     let used = offset(lengths, count);
     let at = offset(lengths, k);
     let n = lengths[k] as usize;
-    cell_shifts::cut(stops, used, at, n);
-    cell_shifts::cut(lengths, count, k, 1);
+    route_exchange::cut(stops, used, at, n);
+    route_exchange::cut(lengths, count, k, 1);
     lengths[count - 1] = 0;
 }
 
@@ -46,6 +50,6 @@ pub fn drop_empty(lengths: &mut [u16]) -> usize
         r += counted(n);
         k += 1;
     }
-    cells::clear(&mut lengths[r..]);
+    route_exchange::clear(&mut lengths[r..]);
     r
 }

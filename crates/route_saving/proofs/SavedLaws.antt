@@ -6,13 +6,13 @@ use mathlib.Core.List.{List, []}
 use lib.ListN.{get_or, take, drop}
 use lib.IntN.{ℤ}
 use lib.Ieee.{Float}
-use Rattle.floats.specs.Binary64.{◌⊕◌}
-use Rattle.models.specs.declared.vehicle.Vehicle.{Vehicle}
-use Rattle.models.specs.Vehicle.{fixed_cost_in_distance}
-use Rattle.models.specs.Problem.{problem}
-use Rattle.plan.specs.Plan.{split, route, offset}
-use Rattle.route_cost.proofs.VisitLaws.{part_is}
-use Rattle.reinsertion_worth.specs.Worth.{worth}
+use Rattle.emptied_route.specs.floats.Binary64.{◌⊕◌}
+use Rattle.emptied_route.specs.models.declared.vehicle.Vehicle.{Vehicle}
+use Rattle.emptied_route.specs.models.Vehicle.{fixed_cost_in_distance}
+use Rattle.emptied_route.specs.models.Problem.{problem}
+use Rattle.emptied_route.specs.plan.Plan.{split, route, offset}
+use Rattle.emptied_route.proofs.of_route_cost.VisitLaws.{part_is}
+use Rattle.emptied_route.specs.reinsertion_worth.Worth.{worth}
 use Rattle.emptied_route.specs.Attempts.{Attempted}
 use Rattle.emptied_route.proofs.EmptiedLaws.{attempt_visit}
 

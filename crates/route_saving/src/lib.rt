@@ -2,16 +2,29 @@
 #![tactic(auto)]
 
 ghost use Rattle.std.specs.Prelude.{◌≡◌};
-ghost use Rattle.floats.specs.Binary64.{◌⊕◌};
-ghost use Rattle.models.specs.Vehicle.{fixed_cost_in_distance};
-ghost use Rattle.models.specs.Problem.{problem};
-ghost use Rattle.plan.specs.Plan.{split, route};
-ghost use Rattle.reinsertion_worth.specs.Worth.{worth};
+ghost use Rattle.emptied_route.specs.floats.Binary64.{◌⊕◌};
+ghost use Rattle.emptied_route.specs.models.Vehicle.{fixed_cost_in_distance};
+ghost use Rattle.emptied_route.specs.models.Problem.{problem};
+ghost use Rattle.emptied_route.specs.plan.Plan.{split, route};
+ghost use Rattle.emptied_route.specs.reinsertion_worth.Worth.{worth};
 ghost use Rattle.emptied_route.specs.Attempts.{Attempted};
 
-use models::vehicle::Vehicle;
-use plan::offset;
-use reinsertion_worth::worth;
+
+use emptied_route::offset;
+use emptied_route::worth;
+
+// Of the crates below, passed on to those above.
+pub use emptied_route::is_finite;
+pub use emptied_route::Vehicle;
+pub use emptied_route::has_soft_windows;
+pub use emptied_route::Pick;
+pub use emptied_route::next_pick;
+pub use emptied_route::route_cost_gain_floor;
+pub use emptied_route::constrained;
+pub use emptied_route::Counts;
+pub use emptied_route::LocalSearchNext;
+pub use emptied_route::Reduction;
+pub use emptied_route::empty_route;
 
 // What is saved where route r goes: its worth and its fixed cost.
 pub fn saved_by(

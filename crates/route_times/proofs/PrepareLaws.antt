@@ -8,10 +8,10 @@ use mathlib.Core.Option.{Option, none, some}
 use lib.ListN.{length, take, drop, length-take, length-drop}
 use lib.Seq.{take-append-le, drop_at, take-take, length-take-le}
 use lib.Ieee.{Float}
-use Rattle.models.specs.Problem.{Problem, Stops, depot}
-use Rattle.route_load.specs.Feasible.{constrained}
-use Rattle.quick_test.specs.Quick.{departures, latest_arrivals, with_latest, times}
-use Rattle.quick_test.specs.Parts.{told}
+use Rattle.walked_times.specs.models.Problem.{Problem, Stops, depot}
+use Rattle.walked_times.specs.route_load.Feasible.{constrained}
+use Rattle.walked_times.specs.quick_test.Quick.{departures, latest_arrivals, with_latest, times}
+use Rattle.walked_times.specs.quick_test.Parts.{told}
 use Rattle.route_times.specs.Prepared.{held, Prepared}
 
 -- ---- a part of the work cells, lent and given back

@@ -5,11 +5,11 @@ use Rattle.std.proofs.Common.{sym, ◌∙◌, true≢false}
 use Rattle.std.proofs.Math.Bool.{true, false}
 use mathlib.Core.List.{List, []}
 use Rattle.std.proofs.Math.Option.{Option, none, some}
-use Rattle.models.specs.declared.vehicle.Vehicle.{Vehicle}
-use Rattle.models.specs.Problem.{Problem, problem}
-use Rattle.route_load.specs.Feasible.{constrained}
-use Rattle.quick_test.specs.Quick.{Times, times}
-use Rattle.quick_test.specs.Parts.{told}
+use Rattle.walked_times.specs.models.declared.vehicle.Vehicle.{Vehicle}
+use Rattle.walked_times.specs.models.Problem.{Problem, problem}
+use Rattle.walked_times.specs.route_load.Feasible.{constrained}
+use Rattle.walked_times.specs.quick_test.Quick.{Times, times}
+use Rattle.walked_times.specs.quick_test.Parts.{told}
 
 -- the departures in the first m of 256 cells, the latest arrivals in the first m of the next 256
 abbrev pub held : ℕ → List Float → Times

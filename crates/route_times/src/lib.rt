@@ -3,16 +3,39 @@
 #![tactic(auto)]
 
 ghost use Rattle.std.specs.Prelude.{◌≡◌, [], ◌≤◌, ◌<◌, length, take, drop};
-ghost use Rattle.models.specs.Customer.{customers};
-ghost use Rattle.models.specs.RouteLimits.{limits_of};
-ghost use Rattle.models.specs.Problem.{matrix, problem, Fit, Stops};
-ghost use Rattle.evaluation.specs.Check.{route_checks_needed};
-ghost use Rattle.quick_test.specs.Quick.{departures, latest_arrivals, with_latest};
-ghost use Rattle.quick_test.specs.Parts.{told};
+ghost use Rattle.walked_times.specs.models.Customer.{customers};
+ghost use Rattle.walked_times.specs.models.RouteLimits.{limits_of};
+ghost use Rattle.walked_times.specs.models.Problem.{matrix, problem, Fit, Stops};
+ghost use Rattle.walked_times.specs.evaluation.Check.{route_checks_needed};
+ghost use Rattle.walked_times.specs.quick_test.Quick.{departures, latest_arrivals, with_latest};
+ghost use Rattle.walked_times.specs.quick_test.Parts.{told};
 ghost use Rattle.route_times.specs.Prepared.{held, Prepared};
 
-use models::vehicle::Vehicle;
+
 use walked_times::{departures, latest_arrivals};
+
+// Of the crates below, passed on to those above.
+pub use walked_times::Vehicle;
+pub use walked_times::copy_part;
+pub use walked_times::offset;
+pub use walked_times::put_in;
+pub use walked_times::take_out;
+pub use walked_times::Pick;
+pub use walked_times::next_pick;
+pub use walked_times::RouteCostBest;
+pub use walked_times::Insertion;
+pub use walked_times::insertion_cost_insertion_cost;
+pub use walked_times::has_room;
+pub use walked_times::within_capacity;
+pub use walked_times::rounds;
+pub use walked_times::checked;
+pub use walked_times::constrained;
+pub use walked_times::feasible;
+pub use walked_times::trial_ok;
+pub use walked_times::Counts;
+pub use walked_times::LocalSearchNext;
+pub use walked_times::Reduction;
+pub use walked_times::may_fit;
 
 // The departures go to the first 256 work cells; false where one of the stops is reached after its window closes.
 fn keep_departures(

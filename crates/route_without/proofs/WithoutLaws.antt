@@ -7,20 +7,20 @@ use native.Mathlib.Omega.{arith}
 use lib.ListN.{length, take, drop, get_or, replicate, length-append, length-reverse, length-replicate}
 use lib.Seq.{take_at, drop_at}
 use lib.Ieee.{Float}
-use Rattle.laws.specs.Counts.{count_reverse}
-use Rattle.laws.specs.Edits.{erase, length_erase}
-use Rattle.models.specs.Problem.{Problem}
-use Rattle.plan.specs.Plan.{Holds, Lent, split, flat, route, total}
-use Rattle.plan.specs.Routes.{number_erase, occurs_erase}
-use Rattle.plan.specs.Slices.{length_split, flat_split_all}
-use Rattle.local_search.specs.declared.rounds.Counts.{Counts}
-use Rattle.route_cost.specs.Route.{cost}
-use Rattle.local_search.specs.Search.{EndsWith0, but_last}
-use Rattle.ejection_made.specs.Made.{stack}
+use Rattle.route_removal.specs.laws.Counts.{count_reverse}
+use Rattle.route_removal.specs.laws.Edits.{erase, length_erase}
+use Rattle.pool_attempt.specs.models.Problem.{Problem}
+use Rattle.route_removal.specs.plan.Plan.{Holds, Lent, split, flat, route, total}
+use Rattle.route_removal.specs.plan.Routes.{number_erase, occurs_erase}
+use Rattle.route_removal.specs.plan.Slices.{length_split, flat_split_all}
+use Rattle.pool_attempt.specs.local_search.declared.rounds.Counts.{Counts}
+use Rattle.pool_attempt.specs.route_cost.Route.{cost}
+use Rattle.pool_attempt.specs.local_search.Search.{EndsWith0, but_last}
+use Rattle.pool_attempt.specs.ejection_made.Made.{stack}
 use Rattle.pool_attempt.specs.declared.Attempted.{Attempted}
-use Rattle.ejection_pool.specs.Pool.{Allowance, run_pool, empty_into}
-use Rattle.pool_cost.specs.Attempt.{attempt}
-use Rattle.ejection_pool.specs.Running.{Running, state}
+use Rattle.pool_attempt.specs.ejection_pool.Pool.{Allowance, run_pool, empty_into}
+use Rattle.pool_attempt.specs.pool_cost.Attempt.{attempt}
+use Rattle.pool_attempt.specs.ejection_pool.Running.{Running, state}
 use Rattle.pool_attempt.specs.Judged.{tried, judged}
 use Rattle.route_without.specs.Attempting.{Attempting}
 

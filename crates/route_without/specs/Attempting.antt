@@ -1,11 +1,11 @@
 -- What an attempt asks for, as the code makes it. Assumes nothing.
 use Rattle.std.specs.Prelude.{ℕ, ◌+◌, ◌*◌, ◌≤◌, ◌<◌, ◌≡◌, Bool, List, length, Float}
-use Rattle.models.specs.RouteLimits.{limits_of}
-use Rattle.models.specs.Problem.{Problem, Admitted}
-use Rattle.evaluation.specs.Check.{route_checks_needed}
-use Rattle.plan.specs.Plan.{split, total}
-use Rattle.local_search.specs.declared.rounds.Counts.{Counts}
-use Rattle.local_search.specs.Planned.{Planned}
+use Rattle.pool_attempt.specs.models.RouteLimits.{limits_of}
+use Rattle.pool_attempt.specs.models.Problem.{Problem, Admitted}
+use Rattle.pool_attempt.specs.evaluation.Check.{route_checks_needed}
+use Rattle.route_removal.specs.plan.Plan.{split, total}
+use Rattle.pool_attempt.specs.local_search.declared.rounds.Counts.{Counts}
+use Rattle.pool_attempt.specs.local_search.Planned.{Planned}
 
 -- an attempt at a route of a plan that fills both slices
 pub record Attempting (p : Problem) (tape : List ℕ) (needed : Bool) (limit : ℕ) (lengths stops work : List ℕ) (cells : List Float) (counts : Counts) : Type 0 where

@@ -2,20 +2,25 @@
 #![tactic(auto)]
 
 ghost use Rattle.std.specs.Prelude.{◌≡◌, ◌<◌, length};
-ghost use Rattle.models.specs.Problem.{problem};
-ghost use Rattle.plan.specs.Plan.{split};
-ghost use Rattle.route_cost.specs.Route.{cost};
-ghost use Rattle.pool_cost.specs.Attempt.{attempt};
-ghost use Rattle.ejection_pool.specs.Running.{allowance};
-ghost use Rattle.local_search.specs.Search.{EndsWith0, but_last};
+ghost use Rattle.pool_attempt.specs.models.Problem.{problem};
+ghost use Rattle.route_removal.specs.plan.Plan.{split};
+ghost use Rattle.pool_attempt.specs.route_cost.Route.{cost};
+ghost use Rattle.pool_attempt.specs.pool_cost.Attempt.{attempt};
+ghost use Rattle.pool_attempt.specs.ejection_pool.Running.{allowance};
+ghost use Rattle.pool_attempt.specs.local_search.Search.{EndsWith0, but_last};
 ghost use Rattle.pool_attempt.specs.Judged.{tried};
 ghost use Rattle.route_without.specs.Attempting.{Attempting};
 
-use local_search::rounds::Counts;
-use models::vehicle::Vehicle;
-use pool_attempt::{Attempted, try_rest};
+
+
+use pool_attempt::try_rest;
 use route_pool::to_pool;
 use route_removal::erase_route;
+
+// Of the crates below, passed on to those above.
+pub use pool_attempt::Vehicle;
+pub use pool_attempt::Counts;
+pub use pool_attempt::Attempted;
 
 // Route r is taken out of the plan and emptied into the others. The work cells are free.
 pub fn try_without(

@@ -3,24 +3,24 @@ use Prim.Native.Nat.{ℕ, ◌<◌}
 use mathlib.Core.Path.{◌≡◌, refl, sym, ap, subst, ◌∙◌}
 use mathlib.Core.List.{List}
 use lib.Ieee.{Float}
-use Rattle.floats.specs.Binary64.{+∞}
-use Rattle.laws.specs.Walks.{walk_rule}
-use Rattle.models.specs.declared.vehicle.Rest.TheVariants.{None as NoRest, Break}
-use Rattle.models.specs.declared.vehicle.VehicleBreak.{VehicleBreak}
-use Rattle.models.specs.declared.limits.RouteLimits.{RouteLimits}
-use Rattle.models.specs.Customer.{Customers}
-use Rattle.models.specs.Vehicle.{vehicle_break_new}
-use Rattle.models.specs.Problem.{DistanceMatrix, matrix, Stops}
-use Rattle.break_clock.specs.declared.route_eval.RouteEval.{RouteEval}
-use Rattle.break_clock.specs.declared.route_eval.Eval.{Eval}
-use Rattle.break_clock.specs.declared.route_eval.Eval.TheVariants.{Infeasible, Feasible}
-use Rattle.evaluation.specs.declared.eval.Walk.{Walk}
-use Rattle.evaluation.specs.declared.eval.Walked.{Walked}
-use Rattle.evaluation.specs.declared.eval.Walked.TheVariants.{Late, At as WalkAt}
-use Rattle.break_clock.specs.Schedule.{schedule}
-use Rattle.break_clock.specs.RouteEval.{priced_distance}
-use Rattle.evaluation.specs.Eval.{limited, set_out, drive, onward, drive_all, home, homeward, eval_with, route_eval, worth, effective_cost}
-use Rattle.break_clock.proofs.StopLaws.{stops_all}
+use Rattle.route_drive.specs.floats.Binary64.{+∞}
+use Rattle.route_drive.specs.laws.Walks.{walk_rule}
+use Rattle.route_drive.specs.models.declared.vehicle.Rest.TheVariants.{None as NoRest, Break}
+use Rattle.route_drive.specs.models.declared.vehicle.VehicleBreak.{VehicleBreak}
+use Rattle.route_drive.specs.models.declared.limits.RouteLimits.{RouteLimits}
+use Rattle.route_drive.specs.models.Customer.{Customers}
+use Rattle.route_drive.specs.models.Vehicle.{vehicle_break_new}
+use Rattle.route_drive.specs.models.Problem.{DistanceMatrix, matrix, Stops}
+use Rattle.route_drive.specs.break_clock.declared.route_eval.RouteEval.{RouteEval}
+use Rattle.route_drive.specs.break_clock.declared.route_eval.Eval.{Eval}
+use Rattle.route_drive.specs.break_clock.declared.route_eval.Eval.TheVariants.{Infeasible, Feasible}
+use Rattle.route_drive.specs.evaluation.declared.eval.Walk.{Walk}
+use Rattle.route_drive.specs.evaluation.declared.eval.Walked.{Walked}
+use Rattle.route_drive.specs.evaluation.declared.eval.Walked.TheVariants.{Late, At as WalkAt}
+use Rattle.route_drive.specs.break_clock.Schedule.{schedule}
+use Rattle.route_drive.specs.break_clock.RouteEval.{priced_distance}
+use Rattle.route_drive.specs.evaluation.Eval.{limited, set_out, drive, onward, drive_all, home, homeward, eval_with, route_eval, worth, effective_cost}
+use Rattle.route_drive.proofs.of_break_clock.StopLaws.{stops_all}
 use Rattle.route_drive.proofs.DriveLaws.{drive_goes}
 
 -- ---- the ends of the walk

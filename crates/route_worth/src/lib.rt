@@ -2,17 +2,33 @@
 #![tactic(auto)]
 
 ghost use Rattle.std.specs.Prelude.{◌≡◌, ◌<◌};
-ghost use Rattle.models.specs.Customer.{customers};
-ghost use Rattle.models.specs.Problem.{matrix, Fit, Stops};
-ghost use Rattle.evaluation.specs.Eval.{route_eval, effective_cost};
+ghost use Rattle.route_drive.specs.models.Customer.{customers};
+ghost use Rattle.route_drive.specs.models.Problem.{matrix, Fit, Stops};
+ghost use Rattle.route_drive.specs.evaluation.Eval.{route_eval, effective_cost};
 
-use break_clock::route_eval::Eval;
-use break_schedule::schedule;
-use evaluation::eval::{Walk, Walked, limited};
-use float_functions::infinity;
-use models::limits::RouteLimits;
-use models::vehicle::{Rest, VehicleBreak};
+use route_drive::Eval;
+use route_drive::break_schedule_schedule as schedule;
+use route_drive::Walk;
+use route_drive::Walked;
+use route_drive::limited;
+use route_drive::infinity;
+
+use route_drive::Rest;
+use route_drive::VehicleBreak;
 use route_drive::{drive_all, home};
+
+// Of the crates below, passed on to those above.
+pub use route_drive::is_finite;
+pub use route_drive::max;
+pub use route_drive::total_less;
+pub use route_drive::Penalty;
+pub use route_drive::Window;
+pub use route_drive::RouteLimits;
+pub use route_drive::Vehicle;
+pub use route_drive::penalty_at;
+pub use route_drive::window_at;
+pub use route_drive::largest;
+pub use route_drive::has_soft_windows;
 
 // The evaluation of the route depot, stops, depot.
 pub fn route_eval(

@@ -2,10 +2,16 @@
 #![tactic(auto)]
 
 ghost use Rattle.std.specs.Prelude.{◌≡◌};
-ghost use Rattle.planner.specs.Told.{slices_of};
+ghost use Rattle.stored_answers.specs.planner.Told.{slices_of};
 ghost use Rattle.stored_answers.specs.Answers.{same_stored, same_rest, same_cells, same_plan};
 
-use stored_answers::Stored;
+// Of the crates below, passed on to those above.
+pub use stored_answers::Stored;
+pub use stored_answers::of_number;
+pub use stored_answers::of_replied;
+pub use stored_answers::of_window;
+
+
 
 // Whether two answers have the same numbers.
 pub fn same_stored(x: Stored, y: Stored) -> bool

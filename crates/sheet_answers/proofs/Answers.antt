@@ -5,20 +5,20 @@ use mathlib.Core.List.{List}
 use native.Mathlib.Omega.{arith}
 use mathlib.Core.Option.{none, some}
 use lib.ListN.{length, take}
-use Rattle.models.specs.Problem.{Problem}
-use Rattle.plan.specs.Plan.{Slices, written}
-use Rattle.local_search.specs.declared.rounds.Counts.{Counts}
-use Rattle.local_search.specs.declared.rounds.Reduction.{Reduction}
-use Rattle.ejection_pool.specs.Running.{allowance}
-use Rattle.minimization.specs.Minimize.{minimize_routes}
-use Rattle.elimination_moves.specs.Eliminate.{eliminate_routes}
-use Rattle.entry.specs.Table.{refusal}
-use Rattle.entry.specs.Given.{minimise_inputs, eliminate_inputs}
+use Rattle.planner.specs.models.Problem.{Problem}
+use Rattle.planner.specs.plan.Plan.{Slices, written}
+use Rattle.planner.specs.local_search.declared.rounds.Counts.{Counts}
+use Rattle.planner.specs.local_search.declared.rounds.Reduction.{Reduction}
+use Rattle.planner.specs.ejection_pool.Running.{allowance}
+use Rattle.planner.specs.minimization.Minimize.{minimize_routes}
+use Rattle.planner.specs.elimination_moves.Eliminate.{eliminate_routes}
+use Rattle.planner.specs.entry.Table.{refusal}
+use Rattle.planner.specs.entry.Given.{minimise_inputs, eliminate_inputs}
 use Rattle.planner.specs.Calls.{plan_in, reply, public_minimise, public_eliminate}
 use Rattle.planner.specs.Run.{minimise, call}
-use Rattle.sheet_text.specs.Text.{Reading, refused, got}
-use Rattle.sheet_format.specs.Form.{Sheet, sheet, given}
-use Rattle.listing.specs.Listing.{refusal_line}
+use Rattle.sheet_laws.specs.sheet_text.Text.{Reading, refused, got}
+use Rattle.sheet_laws.specs.sheet_format.Form.{Sheet, sheet, given}
+use Rattle.sheet_laws.specs.listing.Listing.{refusal_line}
 use Rattle.sheet_answers.specs.Printed.{work, eliminated, planned, printed_of, printed}
 use Rattle.sheet_answers.specs.Refused.{refusal_of, sheet_refusal, Listed}
 use Rattle.sheet_answers.proofs.ListedLaws.{eliminate_follows}

@@ -6,28 +6,28 @@ use mathlib.Core.Option.{Option, none, some}
 use native.Mathlib.Nat.{le_refl}
 use native.Mathlib.Omega.{arith}
 use lib.ListN.{length, take, length-take, length-map}
-use Rattle.laws.specs.All.{All, all_nil, all_cons}
-use Rattle.laws.specs.Counts.{same_length}
-use Rattle.models.specs.Problem.{Problem}
-use Rattle.plan.specs.Plan.{Plan, Slices, flat, total, lengths_of, occurs}
-use Rattle.plan.specs.Slices.{length_split, flat_split, total_lengths, lengths_take, offset_within}
-use Rattle.plan.specs.Dropped.{length_padded}
-use Rattle.local_search.specs.declared.rounds.Counts.{Counts}
-use Rattle.local_search.specs.declared.rounds.Reduction.{Reduction}
-use Rattle.local_search.specs.Rounds.{Result}
-use Rattle.ejection_pool.specs.Pool.{Allowance}
-use Rattle.ejection_pool.specs.Running.{allowance}
-use Rattle.minimization.specs.Minimize.{minimize_routes}
-use Rattle.minimization.specs.Minimized.{minimize_keeps}
-use Rattle.elimination_moves.specs.Eliminate.{eliminate_routes}
-use Rattle.elimination_moves.specs.Eliminated.{eliminate_keeps}
-use Rattle.entry.specs.Table.{Work, refusal}
-use Rattle.entry.specs.Given.{minimise_inputs, eliminate_inputs}
+use Rattle.planner.specs.laws.All.{All, all_nil, all_cons}
+use Rattle.planner.specs.laws.Counts.{same_length}
+use Rattle.planner.specs.models.Problem.{Problem}
+use Rattle.planner.specs.plan.Plan.{Plan, Slices, flat, total, lengths_of, occurs}
+use Rattle.planner.specs.plan.Slices.{length_split, flat_split, total_lengths, lengths_take, offset_within}
+use Rattle.planner.specs.plan.Dropped.{length_padded}
+use Rattle.planner.specs.local_search.declared.rounds.Counts.{Counts}
+use Rattle.planner.specs.local_search.declared.rounds.Reduction.{Reduction}
+use Rattle.planner.specs.local_search.Rounds.{Result}
+use Rattle.planner.specs.ejection_pool.Pool.{Allowance}
+use Rattle.planner.specs.ejection_pool.Running.{allowance}
+use Rattle.planner.specs.minimization.Minimize.{minimize_routes}
+use Rattle.planner.specs.minimization.Minimized.{minimize_keeps}
+use Rattle.planner.specs.elimination_moves.Eliminate.{eliminate_routes}
+use Rattle.planner.specs.elimination_moves.Eliminated.{eliminate_keeps}
+use Rattle.planner.specs.entry.Table.{Work, refusal}
+use Rattle.planner.specs.entry.Given.{minimise_inputs, eliminate_inputs}
 use Rattle.planner.specs.Calls.{Answer, refused, answered, plan_in, reply, public_minimise, public_eliminate}
-use Rattle.sheet_text.specs.Text.{Reading, refused as refused-reading, got}
-use Rattle.sheet_format.specs.Form.{Sheet, sheet}
+use Rattle.sheet_laws.specs.sheet_text.Text.{Reading, refused as refused-reading, got}
+use Rattle.sheet_laws.specs.sheet_format.Form.{Sheet, sheet}
 use Rattle.sheet_laws.proofs.Read.{sheet_holds}
-use Rattle.listing.proofs.BoundLaws.{listing_fits, refusal_fits}
+use Rattle.sheet_laws.proofs.of_listing.BoundLaws.{listing_fits, refusal_fits}
 use Rattle.sheet_answers.specs.Printed.{work, unless_refused, eliminated, planned, printed_of, printed}
 
 -- the stops of some of a plan's routes are no more than all

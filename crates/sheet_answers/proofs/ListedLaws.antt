@@ -8,34 +8,34 @@ use native.Mathlib.Omega.{arith}
 use lib.ListN.{length, take, length-take}
 use lib.IntN.{ℤ}
 use lib.Ieee.{Float}
-use Rattle.laws.specs.All.{All, all_of, all_map, all_take, all_head}
-use Rattle.models.specs.declared.vehicle.Vehicle.{Vehicle}
-use Rattle.models.specs.Problem.{Problem, depot, Stops, Demands}
-use Rattle.plan.specs.Plan.{Plan, Slices, Lent, split, flat}
-use Rattle.plan.specs.Slices.{length_split, flat_split_all}
-use Rattle.local_search.specs.Planned.{planned_stops}
-use Rattle.local_search.specs.declared.rounds.Counts.{Counts}
-use Rattle.local_search.specs.declared.rounds.Reduction.{Reduction}
-use Rattle.elimination_moves.specs.Eliminate.{eliminate_routes}
-use Rattle.elimination_moves.specs.Eliminated.{eliminate_keeps}
-use Rattle.ejection_pool.specs.Running.{allowance}
-use Rattle.entry.specs.Table.{too_few, table, first_applying, refusal}
-use Rattle.entry.specs.Given.{entry, eliminate_inputs}
-use Rattle.entry.proofs.EntryLaws.{own_rows}
-use Rattle.entry.proofs.AdmittedLaws.{Accepted, eliminate_accepted}
+use Rattle.planner.specs.laws.All.{All, all_of, all_map, all_take, all_head}
+use Rattle.planner.specs.models.declared.vehicle.Vehicle.{Vehicle}
+use Rattle.planner.specs.models.Problem.{Problem, depot, Stops, Demands}
+use Rattle.planner.specs.plan.Plan.{Plan, Slices, Lent, split, flat}
+use Rattle.planner.specs.plan.Slices.{length_split, flat_split_all}
+use Rattle.planner.specs.local_search.Planned.{planned_stops}
+use Rattle.planner.specs.local_search.declared.rounds.Counts.{Counts}
+use Rattle.planner.specs.local_search.declared.rounds.Reduction.{Reduction}
+use Rattle.planner.specs.elimination_moves.Eliminate.{eliminate_routes}
+use Rattle.planner.specs.elimination_moves.Eliminated.{eliminate_keeps}
+use Rattle.planner.specs.ejection_pool.Running.{allowance}
+use Rattle.planner.specs.entry.Table.{too_few, table, first_applying, refusal}
+use Rattle.planner.specs.entry.Given.{entry, eliminate_inputs}
+use Rattle.planner.proofs.of_entry.EntryLaws.{own_rows}
+use Rattle.planner.proofs.of_entry.AdmittedLaws.{Accepted, eliminate_accepted}
 use Rattle.planner.specs.Calls.{refused, answered, Reply, plan_in, reply, public_minimise, public_eliminate}
 use Rattle.planner.specs.Run.{Call, eliminate, call, run}
 use Rattle.planner.specs.declared.calls.Replied.{Replied}
 use Rattle.planner.specs.declared.calls.Replied.TheVariants.{Refused as NotReplied, Answered as RepliedAs}
 use Rattle.planner.specs.Told.{slices_of, work_of, reply_of}
 use Rattle.planner.proofs.Demand3.{demand_3}
-use Rattle.sheet_text.specs.Text.{refused as refused-reading, got}
-use Rattle.sheet_text.proofs.ReadLaws.{told}
-use Rattle.sheet_format.specs.Form.{Sheet, sheet}
-use Rattle.listing.specs.Listing.{of_listing, Prints, listing, refusal_line}
-use Rattle.listing.specs.Written.{Room, Written}
-use Rattle.listing.proofs.ReadLaws.{read, listing_reads}
-use Rattle.listing.proofs.BoundLaws.{listing_fits, refusal_fits}
+use Rattle.sheet_laws.specs.sheet_text.Text.{refused as refused-reading, got}
+use Rattle.sheet_laws.proofs.of_sheet_text.ReadLaws.{told}
+use Rattle.sheet_laws.specs.sheet_format.Form.{Sheet, sheet}
+use Rattle.sheet_laws.specs.listing.Listing.{of_listing, Prints, listing, refusal_line}
+use Rattle.sheet_laws.specs.listing.Written.{Room, Written}
+use Rattle.sheet_laws.proofs.of_listing.ReadLaws.{read, listing_reads}
+use Rattle.sheet_laws.proofs.of_listing.BoundLaws.{listing_fits, refusal_fits}
 use Rattle.sheet_laws.specs.Short.{Short}
 use Rattle.sheet_laws.proofs.Distances.{distance-prints}
 use Rattle.sheet_answers.proofs.Fits.{flat_take, every}

@@ -4,3 +4,5 @@ pub mod Printed
 pub mod Refused
 -- the sample's listing, and refusals, by computation
 pub mod Sample
+-- crates below, passed on to those above
+pub use Rattle.sheet_laws.specs as sheet_laws

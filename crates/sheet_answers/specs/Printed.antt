@@ -1,15 +1,15 @@
 -- What a sheet prints ("The rest: bound and sheet"): "The sheet program reads standard input, runs minimise, then eliminate." Assumes nothing.
 use Rattle.std.specs.Prelude.{ℕ, List, take}
-use Rattle.models.specs.Problem.{Problem}
-use Rattle.plan.specs.Plan.{Slices}
-use Rattle.local_search.specs.declared.rounds.Counts.{Counts}
-use Rattle.local_search.specs.declared.rounds.Reduction.{Reduction}
-use Rattle.ejection_pool.specs.Running.{allowance}
-use Rattle.entry.specs.Table.{Work}
+use Rattle.planner.specs.models.Problem.{Problem}
+use Rattle.planner.specs.plan.Plan.{Slices}
+use Rattle.planner.specs.local_search.declared.rounds.Counts.{Counts}
+use Rattle.planner.specs.local_search.declared.rounds.Reduction.{Reduction}
+use Rattle.planner.specs.ejection_pool.Running.{allowance}
+use Rattle.planner.specs.entry.Table.{Work}
 use Rattle.planner.specs.Calls.{Answer, refused as refused_with, answered, plan_in, public_minimise, public_eliminate}
-use Rattle.sheet_text.specs.Text.{Reading, refused, got}
-use Rattle.sheet_format.specs.Form.{Sheet, sheet, given}
-use Rattle.listing.specs.Listing.{listing, refusal_line}
+use Rattle.sheet_laws.specs.sheet_text.Text.{Reading, refused, got}
+use Rattle.sheet_laws.specs.sheet_format.Form.{Sheet, sheet, given}
+use Rattle.sheet_laws.specs.listing.Listing.{listing, refusal_line}
 
 -- the work cells that both calls are lent: the least that row 9 leaves
 abbrev pub work : Work

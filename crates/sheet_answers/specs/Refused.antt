@@ -1,14 +1,14 @@
 -- What a sheet is refused with: "A sheet is tested for 10, then read front to back to its first fault (11 or 12), then 1 to 9." Assumes nothing.
 use Rattle.std.specs.Prelude.{ℕ, ◌≡◌, List}
 use Rattle.std.proofs.Math.Option.{Option, some}
-use Rattle.models.specs.Problem.{Problem}
-use Rattle.plan.specs.Plan.{Plan}
-use Rattle.local_search.specs.declared.rounds.Counts.{Counts}
-use Rattle.entry.specs.Table.{refusal}
-use Rattle.entry.specs.Given.{minimise_inputs}
-use Rattle.sheet_text.specs.Text.{Reading, refused, got}
-use Rattle.sheet_format.specs.Form.{Sheet, sheet}
-use Rattle.listing.specs.Listing.{listing}
+use Rattle.planner.specs.models.Problem.{Problem}
+use Rattle.planner.specs.plan.Plan.{Plan}
+use Rattle.planner.specs.local_search.declared.rounds.Counts.{Counts}
+use Rattle.planner.specs.entry.Table.{refusal}
+use Rattle.planner.specs.entry.Given.{minimise_inputs}
+use Rattle.sheet_laws.specs.sheet_text.Text.{Reading, refused, got}
+use Rattle.sheet_laws.specs.sheet_format.Form.{Sheet, sheet}
+use Rattle.sheet_laws.specs.listing.Listing.{listing}
 use Rattle.sheet_answers.specs.Printed.{work}
 
 -- the number that reading came to, or the first row of the table that applies to what was read

@@ -1,9 +1,9 @@
 -- What some sheets print, by computation from the definitions. Assumes nothing.
 use Rattle.std.specs.Prelude.{◌≡◌, refl}
-use Rattle.sheet_text.specs.Text.{bytes}
-use Rattle.sheet_format.specs.Sample.{sample}
-use Rattle.sheet_format.specs.Opened.{opened as form}
-use Rattle.listing.specs.Listing.{opened as lines}
+use Rattle.sheet_laws.specs.sheet_text.Text.{bytes}
+use Rattle.sheet_laws.specs.sheet_format.Sample.{sample}
+use Rattle.sheet_laws.specs.sheet_format.Opened.{opened as form}
+use Rattle.sheet_laws.specs.listing.Listing.{opened as lines}
 use Rattle.planner.specs.Opened.{opened as calls}
 use Rattle.sheet_answers.specs.Printed.{eliminated, planned, printed}
 

@@ -2,17 +2,20 @@
 #![tactic(auto)]
 
 ghost use Rattle.std.specs.Prelude.{◌≡◌, ◌≤◌, length};
-ghost use Rattle.models.specs.Problem.{problem};
-ghost use Rattle.planner.specs.Told.{slices_of};
-ghost use Rattle.listing.specs.Written.{Written};
-ghost use Rattle.sheet_laws.specs.Short.{Short};
-ghost use Rattle.sheet_answers.specs.Printed.{planned, sheet_of};
+ghost use Rattle.minimise_call.specs.models.Problem.{problem};
+ghost use Rattle.minimise_call.specs.planner.Told.{slices_of};
+ghost use Rattle.sheet_elimination.specs.listing.Written.{Written};
+ghost use Rattle.sheet_elimination.specs.sheet_laws.Short.{Short};
+ghost use Rattle.sheet_elimination.specs.sheet_answers.Printed.{planned, sheet_of};
 
-use listing_totals::put_refusal;
+
 use minimise_call::minimise;
-use models::vehicle::Vehicle;
-use planner::calls::Replied;
+use minimise_call::Vehicle;
+use minimise_call::Replied;
 use sheet_elimination::list_eliminated;
+
+// Of the crates below, passed on to those above.
+pub use sheet_elimination::put_refusal;
 
 // Minimises, then eliminates.
 pub fn list_planned(

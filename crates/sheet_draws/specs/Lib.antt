@@ -1,2 +1,8 @@
 -- how a lent slice holds draws
 pub mod Draws
+-- crates below, passed on to those above
+pub use Rattle.sheet_reader.specs.models as models
+pub use Rattle.sheet_reader.specs.plan as plan
+pub use Rattle.sheet_reader.specs.sheet_text as sheet_text
+pub use Rattle.sheet_reader.specs.sheet_format as sheet_format
+pub use Rattle.sheet_reader.specs as sheet_reader

@@ -2,16 +2,20 @@
 #![tactic(auto)]
 
 ghost use Rattle.std.specs.Prelude.{◌≡◌, ◌≤◌, length, take};
-ghost use Rattle.sheet_text.specs.Text.{before, repeat, lf};
-ghost use Rattle.sheet_text.specs.Text.{number as Text·number};
-ghost use Rattle.sheet_format.specs.Form.{draws as Form·draws};
+ghost use Rattle.sheet_reader.specs.sheet_text.Text.{before, repeat, lf};
+ghost use Rattle.sheet_reader.specs.sheet_text.Text.{number as Text·number};
+ghost use Rattle.sheet_reader.specs.sheet_format.Form.{draws as Form·draws};
 ghost use Rattle.sheet_reader.specs.Cells.{filled, AtMost};
 ghost use Rattle.sheet_draws.specs.Draws.{filled_count};
 
-use sheet_fields::number_before;
-use sheet_headings::heading;
-use sheet_text::numbers::{Next, NumberAt};
-use sheet_text::words::Count;
+use sheet_reader::number_before;
+use sheet_reader::heading;
+use sheet_reader::SheetTextNext as Next;
+use sheet_reader::NumberAt;
+
+// Of the crates below, passed on to those above.
+pub use sheet_reader::Count;
+
 
 // n draws, one a line, into the first cells.
 fn draw_rows(cells: &mut [u64], s: &[u8], at: usize, n: usize) -> Next

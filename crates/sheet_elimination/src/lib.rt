@@ -2,18 +2,21 @@
 #![tactic(auto)]
 
 ghost use Rattle.std.specs.Prelude.{◌≡◌, ◌≤◌, length};
-ghost use Rattle.models.specs.Problem.{problem};
-ghost use Rattle.planner.specs.Told.{slices_of};
-ghost use Rattle.listing.specs.Written.{Written};
-ghost use Rattle.sheet_laws.specs.Short.{Short};
+ghost use Rattle.eliminate_call.specs.models.Problem.{problem};
+ghost use Rattle.eliminate_call.specs.planner.Told.{slices_of};
+ghost use Rattle.listing_whole.specs.listing.Written.{Written};
+ghost use Rattle.sheet_answers.specs.sheet_laws.Short.{Short};
 ghost use Rattle.sheet_answers.specs.Printed.{eliminated};
 
 use eliminate_call::eliminate;
-use listing_totals::put_refusal;
+
 use listing_whole::put_listing;
-use local_search::rounds::Counts;
-use models::vehicle::Vehicle;
-use planner::calls::Replied;
+use eliminate_call::Counts;
+use eliminate_call::Vehicle;
+use eliminate_call::Replied;
+
+// Of the crates below, passed on to those above.
+pub use listing_whole::put_refusal;
 
 // Eliminates and lists what is left, with the counts of the call before.
 pub fn list_eliminated(

@@ -4,7 +4,7 @@ use Rattle.std.specs.Prelude.{ℕ, ◌≤◌, ◌<◌, ◌≡◌, refl, List, []
 use Prim.Native.String.{String}
 use Rattle.std.proofs.Common.{le-leb}
 use Rattle.std.proofs.lemmas.Bool.{lt-leb}
-use Rattle.sheet_text.specs.Text.{Reading, refused, got, bytes}
+use Rattle.sheet_fields.specs.sheet_text.Text.{Reading, refused, got, bytes}
 use Rattle.sheet_format.specs.Form.{Sheet, sheet, sections}
 use Rattle.sheet_format.specs.Opened.{opened}
 

@@ -2,8 +2,8 @@
 -- and numbers are those of sheet_text, Text. Assumes nothing.
 use Rattle.std.specs.Prelude.{ℕ, zero, suc, ◌-◌, Bool, true, false, cond, ◌||◌, List, [], ◌∷◌, map, length, leb, eqb, ℤ, Float}
 use Rattle.std.proofs.Math.Option.{Option, none, some}
-use Rattle.floats.specs.Binary64.{0f}
-use Rattle.floats.specs.Whole.{nat}
+use Rattle.models.specs.floats.Binary64.{0f}
+use Rattle.models.specs.floats.Whole.{nat}
 use Rattle.models.specs.declared.customer.TimeWindow.{TimeWindow}
 use Rattle.models.specs.declared.customer.Window.{Window}
 use Rattle.models.specs.declared.customer.Window.TheVariants.{None as NoWindow, Is as WindowIs}
@@ -17,7 +17,7 @@ use Rattle.models.specs.declared.vehicle.Vehicle.{Vehicle}
 use Rattle.models.specs.Customer.{customers}
 use Rattle.models.specs.Problem.{Problem, DistanceMatrix, matrix}
 use Rattle.plan.specs.Plan.{Plan, Slices, flat, lengths_of}
-use Rattle.sheet_text.specs.Text.{Reading, refused, got, Parser, ◌>>=◌, ◌>>◌, pure, bytes, space, lf, minus, check, byte, before, number, if_minus, signed, optional, ending, repeat, line}
+use Rattle.sheet_fields.specs.sheet_text.Text.{Reading, refused, got, Parser, ◌>>=◌, ◌>>◌, pure, bytes, space, lf, minus, check, byte, before, number, if_minus, signed, optional, ending, repeat, line}
 use Rattle.sheet_headings.specs.Heading.{heading}
 use Rattle.sheet_format.specs.declared.places.Place.{Place}
 

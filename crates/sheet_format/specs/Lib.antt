@@ -8,3 +8,10 @@ pub mod Sample
 pub mod Faults
 -- what the answers of the code mean
 pub mod Told
+-- crates below, passed on to those above
+pub use Rattle.models.specs.laws as laws
+pub use Rattle.models.specs.floats as floats
+pub use Rattle.models.specs as models
+pub use Rattle.plan.specs as plan
+pub use Rattle.sheet_fields.specs.sheet_text as sheet_text
+pub use Rattle.sheet_headings.specs as sheet_headings

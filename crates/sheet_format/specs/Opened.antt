@@ -1,6 +1,6 @@
 -- Every definition of the form, opened at once. Assumes nothing.
 use Rattle.plan.specs.Plan.{flat}
-use Rattle.sheet_text.specs.Text.{byte, word, digits, number, signed, optional, repeat}
+use Rattle.sheet_fields.specs.sheet_text.Text.{byte, word, digits, number, signed, optional, repeat}
 use Rattle.sheet_headings.specs.Heading.{heading}
 use Rattle.sheet_format.specs.Form.{limit, vehicle_line, vehicle, window, penalty, place, places, distances, times, roads, rest_line, break, draws, route_line, route_lines, routes, run_line, run, problem_of, slices_of, whole_problem, last_run, sections, sheet}
 

@@ -1,11 +1,11 @@
 -- The sample sheet of "The rest: bound and sheet", and what is read of it. Assumes nothing.
 use Rattle.std.specs.Prelude.{ℕ, ◌≡◌, refl, List, [], ◌∷◌, pos}
-use Rattle.floats.specs.Binary64.{0f}
-use Rattle.floats.specs.Whole.{nat}
+use Rattle.models.specs.floats.Binary64.{0f}
+use Rattle.models.specs.floats.Whole.{nat}
 use Rattle.models.specs.declared.vehicle.Limit.TheVariants.{None as NoLimit}
 use Rattle.models.specs.declared.vehicle.Rest.TheVariants.{None as NoRest}
 use Rattle.models.specs.Problem.{problem}
-use Rattle.sheet_text.specs.Text.{got, bytes}
+use Rattle.sheet_fields.specs.sheet_text.Text.{got, bytes}
 use Rattle.sheet_format.specs.Form.{Sheet, sheet}
 use Rattle.sheet_format.specs.Opened.{opened}
 

@@ -2,7 +2,7 @@
 use Rattle.std.specs.Prelude.{ℕ}
 use Rattle.models.specs.declared.customer.Window.{Window}
 use Rattle.models.specs.declared.customer.Penalty.{Penalty}
-use Rattle.sheet_text.specs.Text.{Reading, refused, got}
+use Rattle.sheet_fields.specs.sheet_text.Text.{Reading, refused, got}
 use Rattle.sheet_format.specs.declared.places.Place.{Place}
 use Rattle.sheet_format.specs.declared.places.WindowAt.{WindowAt}
 use Rattle.sheet_format.specs.declared.places.WindowAt.TheVariants.{Got as WindowGot, Bad as WindowBad}

@@ -1,12 +1,18 @@
 // A place's line.
 ghost use Rattle.std.specs.Prelude.{◌≡◌};
-ghost use Rattle.sheet_text.specs.Text.{before};
+ghost use Rattle.sheet_fields.specs.sheet_text.Text.{before};
 ghost use Rattle.sheet_format.specs.Form.{window as Form·window, penalty as Form·penalty, place as Form·place};
 ghost use Rattle.sheet_format.specs.Told.{told_window, told_penalty, told_place};
 
 use models::customer::{Customer, Penalty, TimeWindow, Window};
 use sheet_fields::{number_before, optional_before, signed_before};
-use sheet_text::numbers::{Next, NumberAt, OptionalAt, SignedAt, byte, number, peek};
+use sheet_fields::SheetTextNext as Next;
+use sheet_fields::NumberAt;
+use sheet_fields::OptionalAt;
+use sheet_fields::SignedAt;
+use sheet_fields::byte;
+use sheet_fields::sheet_text_number as number;
+use sheet_fields::peek;
 
 // A place's line: its demand, and what the evaluation of a route reads of it.
 #[derive(Clone, Copy)]

@@ -9,13 +9,13 @@ use lib.Dec.{T}
 use lib.ListN.{length, get_or, drop, length-map, get_or-map}
 use lib.Seq.{drop-cons}
 use lib.Ieee.{Float, nan, binary64, in_unsigned, to_unsigned}
-use Rattle.floats.specs.Binary64.{◌⊕◌}
-use Rattle.floats.specs.Whole.{nat, nat_zero, nat_add, nat_back}
-use Rattle.laws.specs.All.{All, all_nil, all_cons, all_get}
-use Rattle.laws.specs.Matrix.{in_matrix}
-use Rattle.models.specs.Problem.{matrix}
-use Rattle.distance.specs.Matrix.{get}
-use Rattle.route_cost.specs.Route.{legs, route_distance}
+use Rattle.entry.specs.floats.Binary64.{◌⊕◌}
+use Rattle.entry.specs.floats.Whole.{nat, nat_zero, nat_add, nat_back}
+use Rattle.entry.specs.laws.All.{All, all_nil, all_cons, all_get}
+use Rattle.entry.specs.laws.Matrix.{in_matrix}
+use Rattle.entry.specs.models.Problem.{matrix}
+use Rattle.entry.specs.distance.Matrix.{get}
+use Rattle.entry.specs.route_cost.Route.{legs, route_distance}
 use Rattle.listing.specs.Listing.{whole}
 
 -- a cell that is there, whatever stands for one that is not

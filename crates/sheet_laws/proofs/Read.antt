@@ -9,12 +9,12 @@ use native.Mathlib.Nat.{suc-mul, zero-mul, mul-one, mul_assoc, mul-le-mul_left, 
 use borrow.Author.Tests.{leb-true}
 use lib.Dec.{leb}
 use lib.ListN.{length, length-append, length-map}
-use Rattle.laws.specs.All.{All, all_nil, all_cons, all_append}
-use Rattle.laws.specs.Searches.{and_second}
-use Rattle.models.specs.Problem.{Problem, DistanceMatrix}
-use Rattle.plan.specs.Plan.{Plan, flat}
-use Rattle.sheet_text.specs.Text.{Reading, refused, got, next, Parser, bytes, space, lf, check, byte, word, before, is_digit, is_end, look, byte_at, digits, number, ending, repeat, line}
-use Rattle.sheet_headings.specs.Heading.{heading}
+use Rattle.entry.specs.laws.All.{All, all_nil, all_cons, all_append}
+use Rattle.entry.specs.laws.Searches.{and_second}
+use Rattle.entry.specs.models.Problem.{Problem, DistanceMatrix}
+use Rattle.entry.specs.plan.Plan.{Plan, flat}
+use Rattle.sheet_format.specs.sheet_text.Text.{Reading, refused, got, next, Parser, bytes, space, lf, check, byte, word, before, is_digit, is_end, look, byte_at, digits, number, ending, repeat, line}
+use Rattle.sheet_format.specs.sheet_headings.Heading.{heading}
 use Rattle.sheet_format.specs.Form.{Sheet, vehicle, places, distances, times, roads, break, draws, route_line, route_lines, routes, stop_cell, slices_of, last_run, whole_problem, problem_of, sections, sheet}
 use Rattle.sheet_laws.specs.Short.{Short}
 

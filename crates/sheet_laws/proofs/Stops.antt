@@ -8,8 +8,8 @@ use native.Mathlib.Omega.{arith}
 use borrow.Author.Tests.{leb-true, leb-false, le-leb, ltb-true, lt-ltb, le-ltb, ne_eqb}
 use lib.Dec.{leb, ltb, eqb}
 use lib.ListN.{length, take, get_or, length-map, get_or-map}
-use Rattle.laws.specs.Searches.{any, every}
-use Rattle.models.specs.Problem.{Problem, depot}
+use Rattle.entry.specs.laws.Searches.{any, every}
+use Rattle.entry.specs.models.Problem.{Problem, depot}
 use Rattle.entry.specs.Table.{stop_passes, stops_pass}
 use Rattle.sheet_format.specs.Form.{stop_cell}
 

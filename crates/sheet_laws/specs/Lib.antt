@@ -1,2 +1,6 @@
 -- distances of nine digits
 pub mod Short
+-- crates below, passed on to those above
+pub use Rattle.sheet_format.specs.sheet_text as sheet_text
+pub use Rattle.sheet_format.specs as sheet_format
+pub use Rattle.listing.specs as listing

@@ -1,7 +1,7 @@
 -- Distances as a sheet has them. Assumes nothing.
 use Rattle.std.specs.Prelude.{ℕ, ◌*◌, ◌≤◌, ◌≡◌, List, map, length, Float}
-use Rattle.floats.specs.Whole.{nat}
-use Rattle.laws.specs.All.{All}
+use Rattle.entry.specs.floats.Whole.{nat}
+use Rattle.entry.specs.laws.All.{All}
 
 -- n rows of n whole numbers: "numbers are 1 to 9 digits"
 pub record Short (n : ℕ) (distances : List Float) : Type 0 where

@@ -2,13 +2,14 @@
 #![tactic(auto)]
 
 ghost use Rattle.std.specs.Prelude.{◌≡◌, ◌≤◌, length};
-ghost use Rattle.sheet_reader.specs.Cells.{columns_of, Room as ColumnRoom};
-ghost use Rattle.listing.specs.Written.{Written};
-ghost use Rattle.sheet_answers.specs.Printed.{printed};
+ghost use Rattle.sheet_parts.specs.sheet_reader.Cells.{columns_of, Room as ColumnRoom};
+ghost use Rattle.sheet_parts.specs.listing.Written.{Written};
+ghost use Rattle.sheet_parts.specs.sheet_answers.Printed.{printed};
 
-use listing_totals::put_refusal;
+use sheet_parts::put_refusal;
 use sheet_parts::list_parts;
-use sheet_whole::sheet::{SheetAt, sheet};
+use sheet_parts::SheetAt;
+use sheet_parts::sheet_whole_sheet as sheet;
 
 // Reads the text into the slices, and plans what they hold.
 pub fn list_read(

@@ -2,14 +2,19 @@
 #![tactic(auto)]
 
 ghost use Rattle.std.specs.Prelude.{◌≡◌, ◌*◌, ◌≤◌, length, take};
-ghost use Rattle.sheet_reader.specs.Cells.{columns_of, Room as ColumnRoom};
+ghost use Rattle.sheet_whole.specs.sheet_reader.Cells.{columns_of, Room as ColumnRoom};
 ghost use Rattle.sheet_whole.specs.Whole.{sheet_in};
-ghost use Rattle.listing.specs.Written.{Written};
-ghost use Rattle.sheet_laws.specs.Short.{Short};
-ghost use Rattle.sheet_answers.specs.Printed.{planned};
+ghost use Rattle.sheet_calls.specs.listing.Written.{Written};
+ghost use Rattle.sheet_calls.specs.sheet_laws.Short.{Short};
+ghost use Rattle.sheet_calls.specs.sheet_answers.Printed.{planned};
 
 use sheet_calls::list_planned;
-use sheet_problem::Head;
+use sheet_whole::Head;
+
+// Of the crates below, passed on to those above.
+pub use sheet_whole::sheet::SheetAt;
+pub use sheet_whole::sheet::sheet as sheet_whole_sheet;
+pub use sheet_calls::put_refusal;
 
 // Plans what the slices hold of a sheet.
 pub fn list_parts(

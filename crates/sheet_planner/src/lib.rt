@@ -2,8 +2,8 @@
 #![tactic(auto)]
 
 ghost use Rattle.std.specs.Prelude.{◌≡◌, ◌≤◌, length};
-ghost use Rattle.listing.specs.Written.{Written};
-ghost use Rattle.sheet_answers.specs.Printed.{printed};
+ghost use Rattle.sheet_listing.specs.listing.Written.{Written};
+ghost use Rattle.sheet_listing.specs.sheet_answers.Printed.{printed};
 ghost use Rattle.sheet_planner.specs.Output.{output, into};
 
 use sheet_listing::list_read;

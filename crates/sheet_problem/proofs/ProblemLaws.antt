@@ -6,15 +6,15 @@ use native.Mathlib.Nat.{mul-le-mul}
 use native.Mathlib.Omega.{arith}
 use lib.ListN.{length, take, length-map, length-take}
 use lib.Ieee.{Float}
-use Rattle.models.specs.declared.vehicle.Rest.{Rest}
-use Rattle.models.specs.declared.vehicle.Vehicle.{Vehicle}
-use Rattle.models.specs.Customer.{customers}
-use Rattle.models.specs.Problem.{Problem, DistanceMatrix, matrix}
-use Rattle.sheet_text.specs.Text.{Reading, refused, got, map_reading}
-use Rattle.sheet_format.specs.declared.places.Place.{Place}
-use Rattle.sheet_format.specs.Form.{vehicle, places, roads, break, with_rest, problem_of, whole_problem}
-use Rattle.sheet_reader.specs.Cells.{Columns, columns, first_cells}
-use Rattle.sheet_reader.proofs.FillLaws.{got_of, refused_of}
+use Rattle.sheet_vehicle.specs.models.declared.vehicle.Rest.{Rest}
+use Rattle.sheet_vehicle.specs.models.declared.vehicle.Vehicle.{Vehicle}
+use Rattle.sheet_vehicle.specs.models.Customer.{customers}
+use Rattle.sheet_vehicle.specs.models.Problem.{Problem, DistanceMatrix, matrix}
+use Rattle.sheet_vehicle.specs.sheet_text.Text.{Reading, refused, got, map_reading}
+use Rattle.sheet_vehicle.specs.sheet_format.declared.places.Place.{Place}
+use Rattle.sheet_vehicle.specs.sheet_format.Form.{vehicle, places, roads, break, with_rest, problem_of, whole_problem}
+use Rattle.sheet_roads.specs.sheet_reader.Cells.{Columns, columns, first_cells}
+use Rattle.sheet_roads.proofs.of_sheet_reader.FillLaws.{got_of, refused_of}
 use Rattle.sheet_problem.specs.Told.{problem_in}
 
 pub square_fits : (n m : ℕ) → n ≤ 64 → 4096 ≤ m → n * n ≤ m

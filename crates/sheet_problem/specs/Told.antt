@@ -1,9 +1,9 @@
 -- What the answer of the reader of a problem means, with what the slices hold after it. Assumes nothing.
 use Rattle.std.specs.Prelude.{ℕ, ◌*◌, ◌≤◌, List, take, Float}
-use Rattle.models.specs.Customer.{customers}
-use Rattle.models.specs.Problem.{Problem, matrix}
-use Rattle.sheet_text.specs.Text.{Reading, refused, got}
-use Rattle.sheet_reader.specs.Cells.{Columns}
+use Rattle.sheet_vehicle.specs.models.Customer.{customers}
+use Rattle.sheet_vehicle.specs.models.Problem.{Problem, matrix}
+use Rattle.sheet_vehicle.specs.sheet_text.Text.{Reading, refused, got}
+use Rattle.sheet_roads.specs.sheet_reader.Cells.{Columns}
 use Rattle.sheet_problem.specs.declared.Head.{Head}
 use Rattle.sheet_problem.specs.declared.ProblemAt.{ProblemAt}
 use Rattle.sheet_problem.specs.declared.ProblemAt.TheVariants.{Got as ProblemGot, Refused as ProblemRefused}

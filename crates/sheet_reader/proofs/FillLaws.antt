@@ -7,11 +7,11 @@ use native.Mathlib.Omega.{arith}
 use native.Mathlib.Numerals.{add-one}
 use lib.ListN.{length, take, set}
 use lib.Seq.{take-suc-set}
-use Rattle.sheet_text.specs.Text.{Reading, refused, got, next, Parser, map_reading, before, number, ending, repeat}
-use Rattle.sheet_text.specs.Told.{told_number}
-use Rattle.sheet_text.specs.declared.numbers.NumberAt.{NumberAt}
-use Rattle.sheet_text.specs.declared.numbers.NumberAt.TheVariants.{Got as NumberGot, Bad as NumberBad}
-use Rattle.sheet_text.proofs.ReadLaws.{told}
+use Rattle.sheet_cells.specs.sheet_text.Text.{Reading, refused, got, next, Parser, map_reading, before, number, ending, repeat}
+use Rattle.sheet_cells.specs.sheet_text.Told.{told_number}
+use Rattle.sheet_cells.specs.sheet_text.declared.numbers.NumberAt.{NumberAt}
+use Rattle.sheet_cells.specs.sheet_text.declared.numbers.NumberAt.TheVariants.{Got as NumberGot, Bad as NumberBad}
+use Rattle.sheet_cells.proofs.of_sheet_text.ReadLaws.{told}
 use Rattle.sheet_reader.specs.Cells.{front}
 
 -- ---- readings seen through a function

@@ -8,13 +8,13 @@ use lib.ListN.{length, take, set}
 use lib.Seq.{take-suc-set}
 use lib.IntN.{ℤ}
 use lib.Ieee.{Float}
-use Rattle.sheet_text.specs.Text.{Reading, refused, got, map_reading, repeat}
-use Rattle.sheet_text.proofs.ReadLaws.{told}
-use Rattle.sheet_format.specs.declared.places.Place.{Place}
-use Rattle.sheet_format.specs.declared.places.PlaceAt.{PlaceAt}
-use Rattle.sheet_format.specs.declared.places.PlaceAt.TheVariants.{Got as PlaceGot, Bad as PlaceBad}
-use Rattle.sheet_format.specs.Form.{ready_cell, due_cell, penalty_cell, flags_cell, place}
-use Rattle.sheet_format.specs.Told.{told_place}
+use Rattle.sheet_cells.specs.sheet_text.Text.{Reading, refused, got, map_reading, repeat}
+use Rattle.sheet_cells.proofs.of_sheet_text.ReadLaws.{told}
+use Rattle.sheet_cells.specs.sheet_format.declared.places.Place.{Place}
+use Rattle.sheet_cells.specs.sheet_format.declared.places.PlaceAt.{PlaceAt}
+use Rattle.sheet_cells.specs.sheet_format.declared.places.PlaceAt.TheVariants.{Got as PlaceGot, Bad as PlaceBad}
+use Rattle.sheet_cells.specs.sheet_format.Form.{ready_cell, due_cell, penalty_cell, flags_cell, place}
+use Rattle.sheet_cells.specs.sheet_format.Told.{told_place}
 use Rattle.sheet_reader.specs.Cells.{Columns, columns_of, columns, first_cells, join, add_place, Room, Sizes}
 use Rattle.sheet_reader.proofs.FillLaws.{got_of, refused_of, fill_end, fill_fault, fill_turn}
 

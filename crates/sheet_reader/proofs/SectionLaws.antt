@@ -5,14 +5,14 @@ use mathlib.Core.Bool.{Bool, true, false, ◌&&◌}
 use mathlib.Core.List.{List}
 use lib.Dec.{leb}
 use borrow.Author.Tests.{leb-true}
-use Rattle.sheet_text.specs.Text.{Reading, refused, got, next, check, map_reading, word, byte, number, space, lf}
-use Rattle.sheet_text.specs.Told.{told_count}
-use Rattle.sheet_text.specs.declared.numbers.Next.{Next}
-use Rattle.sheet_text.specs.declared.numbers.Next.TheVariants.{At as NextAt, Bad as NextBad}
-use Rattle.sheet_text.specs.declared.words.Count.{Count}
-use Rattle.sheet_text.specs.declared.words.Count.TheVariants.{Got as CountGot}
-use Rattle.sheet_text.proofs.ReadLaws.{told}
-use Rattle.sheet_headings.specs.Heading.{heading}
+use Rattle.sheet_cells.specs.sheet_text.Text.{Reading, refused, got, next, check, map_reading, word, byte, number, space, lf}
+use Rattle.sheet_cells.specs.sheet_text.Told.{told_count}
+use Rattle.sheet_cells.specs.sheet_text.declared.numbers.Next.{Next}
+use Rattle.sheet_cells.specs.sheet_text.declared.numbers.Next.TheVariants.{At as NextAt, Bad as NextBad}
+use Rattle.sheet_cells.specs.sheet_text.declared.words.Count.{Count}
+use Rattle.sheet_cells.specs.sheet_text.declared.words.Count.TheVariants.{Got as CountGot}
+use Rattle.sheet_cells.proofs.of_sheet_text.ReadLaws.{told}
+use Rattle.sheet_cells.specs.sheet_headings.Heading.{heading}
 use Rattle.sheet_reader.specs.Cells.{filled}
 
 -- ---- counts

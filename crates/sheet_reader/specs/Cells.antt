@@ -1,12 +1,12 @@
 -- How lent slices hold what is read: in their first cells, one after the other. Assumes nothing.
 use Rattle.std.specs.Prelude.{ℕ, ◌≤◌, ◌≡◌, List, [], ◌∷◌, ◌++◌, map, length, take, ℤ, Float}
-use Rattle.sheet_text.specs.Text.{Reading, refused, got}
-use Rattle.sheet_text.specs.declared.numbers.Next.{Next}
-use Rattle.sheet_text.specs.declared.numbers.Next.TheVariants.{At as NextAt, Bad as NextBad}
-use Rattle.sheet_text.specs.declared.words.Count.{Count}
-use Rattle.sheet_text.specs.declared.words.Count.TheVariants.{Got as CountGot, Refused as CountRefused}
-use Rattle.sheet_format.specs.declared.places.Place.{Place}
-use Rattle.sheet_format.specs.Form.{ready_cell, due_cell, penalty_cell, flags_cell}
+use Rattle.sheet_cells.specs.sheet_text.Text.{Reading, refused, got}
+use Rattle.sheet_cells.specs.sheet_text.declared.numbers.Next.{Next}
+use Rattle.sheet_cells.specs.sheet_text.declared.numbers.Next.TheVariants.{At as NextAt, Bad as NextBad}
+use Rattle.sheet_cells.specs.sheet_text.declared.words.Count.{Count}
+use Rattle.sheet_cells.specs.sheet_text.declared.words.Count.TheVariants.{Got as CountGot, Refused as CountRefused}
+use Rattle.sheet_cells.specs.sheet_format.declared.places.Place.{Place}
+use Rattle.sheet_cells.specs.sheet_format.Form.{ready_cell, due_cell, penalty_cell, flags_cell}
 
 -- ---- numbers
 

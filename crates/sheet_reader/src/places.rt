@@ -1,14 +1,15 @@
 // The section of the places.
 ghost use Rattle.std.specs.Prelude.{◌≡◌, ◌+◌};
-ghost use Rattle.sheet_text.specs.Text.{map_reading, repeat};
-ghost use Rattle.sheet_format.specs.Form.{place as Form·place, places as Form·places};
+ghost use Rattle.sheet_cells.specs.sheet_text.Text.{map_reading, repeat};
+ghost use Rattle.sheet_cells.specs.sheet_format.Form.{place as Form·place, places as Form·places};
 ghost use Rattle.sheet_reader.specs.Cells.{columns_of, columns, first_cells, add_place, Room, AtMost, filled, filled_places};
 
 use sheet_cells::{due_cell, flags_cell, penalty_cell, ready_cell};
-use sheet_format::places::{PlaceAt, place_line};
-use sheet_headings::heading;
-use sheet_text::numbers::Next;
-use sheet_text::words::Count;
+use sheet_cells::PlaceAt;
+use sheet_cells::place_line;
+use sheet_cells::heading;
+use sheet_cells::SheetTextNext as Next;
+use sheet_cells::Count;
 
 // The line of place i, into cell i of each slice.
 fn place_row(

@@ -2,9 +2,9 @@
 use Prim.Native.Nat.{ℕ, zero, suc}
 use mathlib.Core.Path.{◌≡◌, refl}
 use mathlib.Core.List.{List}
-use Rattle.models.specs.declared.vehicle.Rest.{Rest}
-use Rattle.models.specs.declared.vehicle.Rest.TheVariants.{None as NoRest}
-use Rattle.sheet_text.specs.Text.{Reading, got}
+use Rattle.sheet_format.specs.models.declared.vehicle.Rest.{Rest}
+use Rattle.sheet_format.specs.models.declared.vehicle.Rest.TheVariants.{None as NoRest}
+use Rattle.sheet_format.specs.sheet_text.Text.{Reading, got}
 use Rattle.sheet_format.specs.Form.{rest_line, rest_lines}
 
 pub rest_none : (s : List ℕ) (at m : ℕ) → m ≡ 0 → got NoRest at ≡ rest_lines m s at

@@ -1,6 +1,6 @@
 -- What the answers of the readers in code mean: the refusal's number, or the value and the position after it. Assumes nothing.
-use Rattle.models.specs.declared.vehicle.Rest.{Rest}
-use Rattle.sheet_text.specs.Text.{Reading, refused, got}
+use Rattle.sheet_format.specs.models.declared.vehicle.Rest.{Rest}
+use Rattle.sheet_format.specs.sheet_text.Text.{Reading, refused, got}
 use Rattle.sheet_rest.specs.declared.RestAt.{RestAt}
 use Rattle.sheet_rest.specs.declared.RestAt.TheVariants.{Got as RestGot, Refused as RestRefused}
 

@@ -5,11 +5,12 @@ ghost use Rattle.std.specs.Prelude.{◌≡◌};
 ghost use Rattle.sheet_format.specs.Form.{rest_line, break, with_rest};
 ghost use Rattle.sheet_rest.specs.Told.{told_rest};
 
-use models::vehicle::{Rest, Vehicle};
-use sheet_fields::number_before;
-use sheet_headings::heading;
-use sheet_text::numbers::NumberAt;
-use sheet_text::words::Count;
+use sheet_format::Rest;
+use sheet_format::Vehicle;
+use sheet_format::number_before;
+use sheet_format::heading;
+use sheet_format::NumberAt;
+use sheet_format::Count;
 
 #[derive(Clone, Copy)]
 pub enum RestAt {

@@ -7,16 +7,16 @@ use lib.Dec.{eqb}
 use lib.ListN.{take}
 use borrow.Author.Tests.{eq-eqb, ne_eqb}
 use lib.Ieee.{Float}
-use Rattle.sheet_text.specs.Text.{Reading, refused, got, next, check, map_reading, repeat}
-use Rattle.sheet_text.specs.declared.words.Count.{Count}
-use Rattle.sheet_text.specs.declared.words.Count.TheVariants.{Got as CountGot, Refused as CountRefused}
-use Rattle.sheet_text.proofs.ReadLaws.{told}
-use Rattle.plan.specs.Plan.{flat}
-use Rattle.models.specs.Problem.{matrix}
-use Rattle.sheet_format.specs.Form.{square, distances, times, roads, row_by_row}
+use Rattle.sheet_squares.specs.sheet_text.Text.{Reading, refused, got, next, check, map_reading, repeat}
+use Rattle.sheet_squares.specs.sheet_text.declared.words.Count.{Count}
+use Rattle.sheet_squares.specs.sheet_text.declared.words.Count.TheVariants.{Got as CountGot, Refused as CountRefused}
+use Rattle.sheet_squares.proofs.of_sheet_text.ReadLaws.{told}
+use Rattle.sheet_squares.specs.plan.Plan.{flat}
+use Rattle.sheet_squares.specs.models.Problem.{matrix}
+use Rattle.sheet_squares.specs.sheet_format.Form.{square, distances, times, roads, row_by_row}
 use Rattle.sheet_roads.specs.declared.Section.{Section}
 use Rattle.sheet_roads.specs.declared.Section.TheVariants.{At as SectionAt, Refused as SectionRefused}
-use Rattle.sheet_reader.proofs.FillLaws.{got_of, refused_of}
+use Rattle.sheet_squares.proofs.of_sheet_reader.FillLaws.{got_of, refused_of}
 use Rattle.sheet_roads.specs.Roads.{filled_section, filled_square, filled_roads}
 
 -- ---- times

@@ -1,9 +1,9 @@
 -- How lent slices hold the distances and the times, row by row. Assumes nothing.
 use Rattle.std.specs.Prelude.{ℕ, ◌*◌, List, take, Float}
-use Rattle.models.specs.Problem.{DistanceMatrix, matrix}
-use Rattle.sheet_text.specs.Text.{Reading, refused, got}
-use Rattle.sheet_text.specs.declared.words.Count.{Count}
-use Rattle.sheet_text.specs.declared.words.Count.TheVariants.{Got as CountGot, Refused as CountRefused}
+use Rattle.sheet_squares.specs.models.Problem.{DistanceMatrix, matrix}
+use Rattle.sheet_squares.specs.sheet_text.Text.{Reading, refused, got}
+use Rattle.sheet_squares.specs.sheet_text.declared.words.Count.{Count}
+use Rattle.sheet_squares.specs.sheet_text.declared.words.Count.TheVariants.{Got as CountGot, Refused as CountRefused}
 use Rattle.sheet_roads.specs.declared.Section.{Section}
 use Rattle.sheet_roads.specs.declared.Section.TheVariants.{At as SectionAt, Refused as SectionRefused}
 

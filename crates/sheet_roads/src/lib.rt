@@ -2,16 +2,19 @@
 #![tactic(auto)]
 
 ghost use Rattle.std.specs.Prelude.{◌≡◌, ◌*◌, ◌≤◌, length, take};
-ghost use Rattle.sheet_text.specs.Text.{map_reading};
-ghost use Rattle.sheet_format.specs.Form.{distances as Form·distances, times as Form·times, roads as Form·roads};
-ghost use Rattle.sheet_reader.specs.Cells.{AtMost};
+ghost use Rattle.sheet_squares.specs.sheet_text.Text.{map_reading};
+ghost use Rattle.sheet_squares.specs.sheet_format.Form.{distances as Form·distances, times as Form·times, roads as Form·roads};
+ghost use Rattle.sheet_squares.specs.sheet_reader.Cells.{AtMost};
 ghost use Rattle.sheet_roads.specs.Roads.{filled_section, filled_square, filled_roads};
-ghost use Rattle.sheet_format.specs.Form.{row_by_row};
+ghost use Rattle.sheet_squares.specs.sheet_format.Form.{row_by_row};
 
-use sheet_headings::heading;
+use sheet_squares::heading;
 use sheet_squares::square;
-use sheet_text::numbers::Next;
-use sheet_text::words::Count;
+use sheet_squares::SheetTextNext as Next;
+use sheet_squares::Count;
+
+// Of the crates below, passed on to those above.
+pub use sheet_squares::sheet_reader_places;
 
 // The position after a section, or the number of a refusal.
 #[derive(Clone, Copy)]

@@ -7,15 +7,15 @@ use borrow.Author.Tests.{le-leb, lt-leb, leb-true}
 use mathlib.Core.Bool.{Bool, true, false}
 use lib.Dec.{leb}
 use lib.ListN.{length, take, set}
-use Rattle.plan.specs.Plan.{Plan, Slices, flat, lengths_of}
-use Rattle.sheet_text.specs.Text.{Reading, refused, got, next, check, Parser, map_reading, byte, number, ending, repeat, line}
-use Rattle.sheet_text.specs.Told.{told_next}
-use Rattle.sheet_text.specs.declared.numbers.Next.{Next}
-use Rattle.sheet_text.specs.declared.numbers.Next.TheVariants.{At as NextAt, Bad as NextBad}
-use Rattle.sheet_text.specs.declared.words.Count.{Count}
-use Rattle.sheet_text.specs.declared.words.Count.TheVariants.{Got as CountGot, Refused as CountRefused}
-use Rattle.sheet_text.proofs.ReadLaws.{told}
-use Rattle.sheet_format.specs.Form.{stop_cell, route_line, route_lines, slices_of}
+use Rattle.sheet_reader.specs.plan.Plan.{Plan, Slices, flat, lengths_of}
+use Rattle.sheet_reader.specs.sheet_text.Text.{Reading, refused, got, next, check, Parser, map_reading, byte, number, ending, repeat, line}
+use Rattle.sheet_reader.specs.sheet_text.Told.{told_next}
+use Rattle.sheet_reader.specs.sheet_text.declared.numbers.Next.{Next}
+use Rattle.sheet_reader.specs.sheet_text.declared.numbers.Next.TheVariants.{At as NextAt, Bad as NextBad}
+use Rattle.sheet_reader.specs.sheet_text.declared.words.Count.{Count}
+use Rattle.sheet_reader.specs.sheet_text.declared.words.Count.TheVariants.{Got as CountGot, Refused as CountRefused}
+use Rattle.sheet_reader.proofs.of_sheet_text.ReadLaws.{told}
+use Rattle.sheet_reader.specs.sheet_format.Form.{stop_cell, route_line, route_lines, slices_of}
 use Rattle.sheet_reader.specs.Cells.{front}
 use Rattle.sheet_routes.specs.declared.routes.PlanAt.{PlanAt}
 use Rattle.sheet_routes.specs.declared.routes.PlanAt.TheVariants.{Got as PlanGot, Refused as PlanRefused}

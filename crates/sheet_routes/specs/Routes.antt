@@ -1,12 +1,12 @@
 -- How lent slices hold the routes. Assumes nothing.
 use Rattle.std.specs.Prelude.{ℕ, ◌+◌, ◌≤◌, List, length, take}
-use Rattle.plan.specs.Plan.{Slices}
-use Rattle.sheet_text.specs.Text.{Reading, refused, got}
-use Rattle.sheet_text.specs.declared.words.Count.{Count}
-use Rattle.sheet_text.specs.declared.words.Count.TheVariants.{Got as CountGot, Refused as CountRefused}
+use Rattle.sheet_reader.specs.plan.Plan.{Slices}
+use Rattle.sheet_reader.specs.sheet_text.Text.{Reading, refused, got}
+use Rattle.sheet_reader.specs.sheet_text.declared.words.Count.{Count}
+use Rattle.sheet_reader.specs.sheet_text.declared.words.Count.TheVariants.{Got as CountGot, Refused as CountRefused}
 use Rattle.sheet_routes.specs.declared.routes.PlanAt.{PlanAt}
 use Rattle.sheet_routes.specs.declared.routes.PlanAt.TheVariants.{Got as PlanGot, Refused as PlanRefused}
-use Rattle.sheet_format.specs.Form.{stop_cell}
+use Rattle.sheet_reader.specs.sheet_format.Form.{stop_cell}
 use Rattle.sheet_reader.specs.Cells.{front}
 
 -- a route behind the stops that are used: its length, and the stops up to its end

@@ -1,15 +1,19 @@
 // The section of the routes.
 ghost use Rattle.std.specs.Prelude.{◌≡◌, ◌+◌, ◌-◌, ◌≤◌, length, take};
-ghost use Rattle.sheet_text.specs.Text.{map_reading, line};
-ghost use Rattle.sheet_format.specs.Form.{stop_cell as Form·stop-cell, route_line, route_lines, routes as Form·routes, slices_of};
+ghost use Rattle.sheet_reader.specs.sheet_text.Text.{map_reading, line};
+ghost use Rattle.sheet_reader.specs.sheet_format.Form.{stop_cell as Form·stop-cell, route_line, route_lines, routes as Form·routes, slices_of};
 ghost use Rattle.sheet_reader.specs.Cells.{front, filled};
 ghost use Rattle.sheet_routes.specs.Routes.{route_behind, filled_route, filled_plan, PlanWithin};
 
-use sheet_cells::stop_cell;
-use sheet_fields::number_before;
-use sheet_headings::heading;
-use sheet_text::numbers::{Next, NumberAt, byte, number};
-use sheet_text::words::{Count, ending};
+use sheet_reader::stop_cell;
+use sheet_reader::number_before;
+use sheet_reader::heading;
+use sheet_reader::SheetTextNext as Next;
+use sheet_reader::NumberAt;
+use sheet_reader::byte;
+use sheet_reader::sheet_text_number as number;
+use sheet_reader::Count;
+use sheet_reader::ending;
 
 // How many routes there are, how many stops in all, and the position after them; or the number of a refusal.
 #[derive(Clone, Copy)]

@@ -1,5 +1,5 @@
 -- What is read of a run. Assumes nothing.
-use Rattle.sheet_text.specs.Text.{Reading, refused, got}
+use Rattle.sheet_format.specs.sheet_text.Text.{Reading, refused, got}
 use Rattle.sheet_run.specs.declared.RunAt.{RunAt}
 use Rattle.sheet_run.specs.declared.RunAt.TheVariants.{Got as RunGot, Refused as RunRefused}
 use Rattle.sheet_format.specs.Form.{Run}

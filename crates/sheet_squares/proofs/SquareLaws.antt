@@ -6,10 +6,10 @@ use lib.ListN.{take}
 use lib.Ieee.{Float}
 use native.Mathlib.Omega.{arith}
 use native.Mathlib.Nat.{suc-mul, zero-mul}
-use Rattle.floats.specs.Whole.{nat}
-use Rattle.plan.specs.Plan.{flat}
-use Rattle.sheet_text.specs.Text.{Reading, refused, got, map_reading, repeat, line}
-use Rattle.sheet_format.specs.Form.{row_by_row}
+use Rattle.sheet_reader.specs.floats.Whole.{nat}
+use Rattle.sheet_reader.specs.plan.Plan.{flat}
+use Rattle.sheet_reader.specs.sheet_text.Text.{Reading, refused, got, map_reading, repeat, line}
+use Rattle.sheet_reader.specs.sheet_format.Form.{row_by_row}
 use Rattle.sheet_reader.proofs.FillLaws.{got_of, refused_of, fill_end, fill_fault, fill_turn}
 use Rattle.sheet_reader.specs.Cells.{front}
 

@@ -2,14 +2,21 @@
 #![tactic(auto)]
 
 ghost use Rattle.std.specs.Prelude.{◌≡◌, ◌+◌, ◌*◌, ◌≤◌, length, take};
-ghost use Rattle.floats.specs.Whole.{nat};
-ghost use Rattle.sheet_text.specs.Text.{map_reading, line};
-ghost use Rattle.sheet_format.specs.Form.{square as Form·square, row_by_row};
+ghost use Rattle.sheet_reader.specs.floats.Whole.{nat};
+ghost use Rattle.sheet_reader.specs.sheet_text.Text.{map_reading, line};
+ghost use Rattle.sheet_reader.specs.sheet_format.Form.{square as Form·square, row_by_row};
 ghost use Rattle.sheet_reader.specs.Cells.{front, filled};
 
-use sheet_fields::number_before;
-use sheet_text::numbers::{Next, NumberAt};
-use sheet_text::words::ending;
+use sheet_reader::number_before;
+use sheet_reader::SheetTextNext as Next;
+use sheet_reader::NumberAt;
+use sheet_reader::ending;
+
+// Of the crates below, passed on to those above.
+pub use sheet_reader::SheetTextNext;
+pub use sheet_reader::Count;
+pub use sheet_reader::heading;
+pub use sheet_reader::places::places as sheet_reader_places;
 
 // The k numbers that end a line, into the cells from base on.
 fn number_row(cells: &mut [f64], base: usize, s: &[u8], at: usize, k: usize) -> Next

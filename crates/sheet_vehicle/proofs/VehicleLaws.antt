@@ -6,11 +6,11 @@ use lib.Ieee.{Float}
 use mir.Syntax.{w32}
 use mir.Val.{SFits, to_z, of_z}
 use mir.Facts.{to_z-of_z}
-use Rattle.models.specs.declared.vehicle.Limit.{Limit}
-use Rattle.models.specs.declared.vehicle.Rest.TheVariants.{None as NoRest}
-use Rattle.models.specs.declared.vehicle.Vehicle.{Vehicle}
-use Rattle.sheet_text.specs.Text.{Reading, refused, got, next}
-use Rattle.sheet_text.proofs.ReadLaws.{told, next_got}
+use Rattle.sheet_format.specs.models.declared.vehicle.Limit.{Limit}
+use Rattle.sheet_format.specs.models.declared.vehicle.Rest.TheVariants.{None as NoRest}
+use Rattle.sheet_format.specs.models.declared.vehicle.Vehicle.{Vehicle}
+use Rattle.sheet_format.specs.sheet_text.Text.{Reading, refused, got, next}
+use Rattle.sheet_format.proofs.of_sheet_text.ReadLaws.{told, next_got}
 use Rattle.sheet_vehicle.specs.Told.{told_limit}
 use Rattle.sheet_vehicle.specs.declared.LimitAt.{LimitAt}
 use Rattle.sheet_vehicle.specs.declared.LimitAt.TheVariants.{Got as LimitGot, Bad as LimitBad}

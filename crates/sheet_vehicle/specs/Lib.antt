@@ -1,2 +1,6 @@
 -- what the answers of the code mean
 pub mod Told
+-- crates below, passed on to those above
+pub use Rattle.sheet_format.specs.models as models
+pub use Rattle.sheet_format.specs.sheet_text as sheet_text
+pub use Rattle.sheet_format.specs as sheet_format

@@ -1,8 +1,8 @@
 -- What the answers of the readers in code mean: the refusal's number, or the value and the position after it. Assumes nothing.
 use Rattle.std.specs.Prelude.{ℕ}
-use Rattle.models.specs.declared.vehicle.Limit.{Limit}
-use Rattle.models.specs.declared.vehicle.Vehicle.{Vehicle}
-use Rattle.sheet_text.specs.Text.{Reading, refused, got}
+use Rattle.sheet_format.specs.models.declared.vehicle.Limit.{Limit}
+use Rattle.sheet_format.specs.models.declared.vehicle.Vehicle.{Vehicle}
+use Rattle.sheet_format.specs.sheet_text.Text.{Reading, refused, got}
 use Rattle.sheet_vehicle.specs.declared.LimitAt.{LimitAt}
 use Rattle.sheet_vehicle.specs.declared.LimitAt.TheVariants.{Got as LimitGot, Bad as LimitBad}
 use Rattle.sheet_vehicle.specs.declared.VehicleAt.{VehicleAt}

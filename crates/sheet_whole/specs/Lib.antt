@@ -2,3 +2,5 @@
 pub mod Request
 -- what the answer of the code means
 pub mod Whole
+-- crates below, passed on to those above
+pub use Rattle.sheet_draws.specs.sheet_reader as sheet_reader

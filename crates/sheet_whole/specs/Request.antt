@@ -1,8 +1,8 @@
 -- The last three sections of a sheet, what is asked of its problem, and what the answer of their reader means. Assumes nothing.
 use Rattle.std.specs.Prelude.{ℕ, ◌≤◌, List, take}
-use Rattle.plan.specs.Plan.{Slices}
-use Rattle.sheet_text.specs.Text.{Reading, refused, got, Parser, ◌>>=◌, pure}
-use Rattle.sheet_format.specs.Form.{Run, draws, routes, slices_of, last_run}
+use Rattle.sheet_draws.specs.plan.Plan.{Slices}
+use Rattle.sheet_draws.specs.sheet_text.Text.{Reading, refused, got, Parser, ◌>>=◌, pure}
+use Rattle.sheet_draws.specs.sheet_format.Form.{Run, draws, routes, slices_of, last_run}
 use Rattle.sheet_whole.specs.declared.request.RequestAt.{RequestAt}
 use Rattle.sheet_whole.specs.declared.request.RequestAt.TheVariants.{Got as RequestGot, Refused as RequestRefused}
 

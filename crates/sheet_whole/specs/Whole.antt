@@ -1,8 +1,8 @@
 -- What the answer of the reader of a sheet means, with what the slices hold after it. Assumes nothing.
 use Rattle.std.specs.Prelude.{ℕ, ◌≤◌, List, take, Float}
-use Rattle.sheet_text.specs.Text.{Reading, refused, got}
-use Rattle.sheet_format.specs.Form.{Sheet}
-use Rattle.sheet_reader.specs.Cells.{Columns}
+use Rattle.sheet_draws.specs.sheet_text.Text.{Reading, refused, got}
+use Rattle.sheet_draws.specs.sheet_format.Form.{Sheet}
+use Rattle.sheet_draws.specs.sheet_reader.Cells.{Columns}
 use Rattle.sheet_problem.specs.declared.Head.{Head}
 use Rattle.sheet_problem.specs.Told.{problem_in}
 use Rattle.sheet_whole.specs.declared.sheet.SheetAt.{SheetAt}

@@ -3,3 +3,6 @@
 
 pub mod request;
 pub mod sheet;
+
+// Of the crates below, passed on to those above.
+pub use sheet_problem::Head;

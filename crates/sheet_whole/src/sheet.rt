@@ -1,7 +1,7 @@
 // The sheet as a whole.
 ghost use Rattle.std.specs.Prelude.{◌≡◌, ◌≤◌, length};
-ghost use Rattle.sheet_format.specs.Form.{sheet as Form·sheet};
-ghost use Rattle.sheet_reader.specs.Cells.{columns_of, Room};
+ghost use Rattle.sheet_draws.specs.sheet_format.Form.{sheet as Form·sheet};
+ghost use Rattle.sheet_draws.specs.sheet_reader.Cells.{columns_of, Room};
 ghost use Rattle.sheet_whole.specs.Whole.{told_sheet, SheetWithin};
 
 use crate::request::{RequestAt, request};

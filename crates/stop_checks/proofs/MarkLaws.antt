@@ -10,9 +10,9 @@ use borrow.Author.Tests.{eqb-true, eqb-false, ne_eqb}
 use lib.ListN.{length, get_or, take, set, replicate, length-set, length-replicate, get_or-replicate}
 use lib.Seq.{take-suc, get_or-set_same, get_or-set_other}
 use lib.Dec.{eqb}
-use Rattle.laws.specs.Counts.{one_if}
-use Rattle.laws.specs.Searches.{any}
-use Rattle.entry.specs.Marks.{Marks}
+use Rattle.length_checks.specs.laws.Counts.{one_if}
+use Rattle.length_checks.specs.laws.Searches.{any}
+use Rattle.length_checks.specs.entry.Marks.{Marks}
 
 -- ---- a number among the stops and one more
 

@@ -8,10 +8,10 @@ use lib.ListN.{length, get_or, drop}
 use lib.Dec.{eqb}
 use borrow.Author.Rules.{rules}
 use borrow.Author.Tests.{eq-eqb, ne_eqb, lt-ltb, le-ltb}
-use Rattle.laws.specs.Searches.{any, any_skip, any_hit, any_end}
-use Rattle.models.specs.declared.vehicle.Vehicle.{Vehicle}
-use Rattle.models.specs.Problem.{of_distances}
-use Rattle.entry.specs.Table.{stop_passes}
+use Rattle.length_checks.specs.laws.Searches.{any, any_skip, any_hit, any_end}
+use Rattle.length_checks.specs.models.declared.vehicle.Vehicle.{Vehicle}
+use Rattle.length_checks.specs.models.Problem.{of_distances}
+use Rattle.length_checks.specs.entry.Table.{stop_passes}
 
 -- ---- c is none of the first i stops
 

@@ -2,12 +2,22 @@
 #![tactic(auto)]
 
 ghost use Rattle.std.specs.Prelude.{◌≡◌, [], ◌∷◌, ◌++◌, true, not, eqb};
-ghost use Rattle.laws.specs.Searches.{any};
-ghost use Rattle.models.specs.Problem.{of_distances};
-ghost use Rattle.entry.specs.Marks.{Marks};
-ghost use Rattle.entry.specs.Table.{stop_passes, stops_pass};
+ghost use Rattle.length_checks.specs.laws.Searches.{any};
+ghost use Rattle.length_checks.specs.models.Problem.{of_distances};
+ghost use Rattle.length_checks.specs.entry.Marks.{Marks};
+ghost use Rattle.length_checks.specs.entry.Table.{stop_passes, stops_pass};
 
-use models::vehicle::Vehicle;
+use length_checks::Vehicle;
+
+// Of the crates below, passed on to those above.
+pub use length_checks::Taken;
+pub use length_checks::Eval;
+pub use length_checks::RouteEval;
+pub use length_checks::break_schedule_schedule;
+pub use length_checks::evaluation_check;
+pub use length_checks::route_cost_gain_floor;
+pub use length_checks::route_cost_route_distance;
+pub use length_checks::bad_lengths;
 
 // Whether x is one of the stops.
 fn contains(stops: &[u16], x: u16) -> bool

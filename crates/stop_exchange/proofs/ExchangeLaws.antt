@@ -12,13 +12,13 @@ use lib.Ieee.{Float}
 use mir.Syntax.{w64}
 use mir.Val.{Fits}
 use borrow.Author.Rules.{rules}
-use Rattle.models.specs.declared.vehicle.Vehicle.{Vehicle}
-use Rattle.models.specs.Problem.{Problem, problem, of_demand, Stops}
-use Rattle.plan.specs.Plan.{Plan, Lent, HasStop, split, route, offset, exchange_stops}
-use Rattle.plan.specs.Exchanges.{occurs_exchange_stops, number_exchange_stops, first_stop_still, second_stop_still, exchange_stops_twice}
-use Rattle.route_load.specs.Feasible.{load, fits, checked, feasible}
-use Rattle.local_search.specs.Planned.{Planned, planned_stops, planned_as}
-use Rattle.route_cost.proofs.VisitLaws.{Visiting, part_end, part_end_fits, part_length_fits, part_is, part_stops}
+use Rattle.perturbation.specs.models.declared.vehicle.Vehicle.{Vehicle}
+use Rattle.perturbation.specs.models.Problem.{Problem, problem, of_demand, Stops}
+use Rattle.exchanged_stops.specs.plan.Plan.{Plan, Lent, HasStop, split, route, offset, exchange_stops}
+use Rattle.exchanged_stops.specs.plan.Exchanges.{occurs_exchange_stops, number_exchange_stops, first_stop_still, second_stop_still, exchange_stops_twice}
+use Rattle.perturbation.specs.route_load.Feasible.{load, fits, checked, feasible}
+use Rattle.perturbation.specs.local_search.Planned.{Planned, planned_stops, planned_as}
+use Rattle.perturbation.proofs.of_route_cost.VisitLaws.{Visiting, part_end, part_end_fits, part_length_fits, part_is, part_stops}
 use Rattle.perturbation.specs.Perturb.{stands, try_exchange}
 
 -- ---- route k, which begins at `at`

@@ -1,18 +1,18 @@
 // The check of two routes of the plan.
 ghost use Rattle.std.specs.Prelude.{◌≡◌, [], ◌-◌, ◌≤◌, ◌<◌, length, take, drop};
-ghost use Rattle.models.specs.RouteLimits.{limits_of};
-ghost use Rattle.models.specs.Customer.{customers};
-ghost use Rattle.models.specs.Problem.{matrix, problem, of_demand, Admitted, Demands, Fit, Stops};
-ghost use Rattle.evaluation.specs.Check.{route_checks_needed};
-ghost use Rattle.plan.specs.Plan.{Lent, split, route};
-ghost use Rattle.route_load.specs.Feasible.{load, fits, checked};
-ghost use Rattle.local_search.specs.Planned.{Planned};
+ghost use Rattle.perturbation.specs.models.RouteLimits.{limits_of};
+ghost use Rattle.perturbation.specs.models.Customer.{customers};
+ghost use Rattle.perturbation.specs.models.Problem.{matrix, problem, of_demand, Admitted, Demands, Fit, Stops};
+ghost use Rattle.perturbation.specs.evaluation.Check.{route_checks_needed};
+ghost use Rattle.exchanged_stops.specs.plan.Plan.{Lent, split, route};
+ghost use Rattle.perturbation.specs.route_load.Feasible.{load, fits, checked};
+ghost use Rattle.perturbation.specs.local_search.Planned.{Planned};
 ghost use Rattle.perturbation.specs.Perturb.{stands};
 
-use local_search::feasible::checked;
-use models::vehicle::Vehicle;
-use plan::offset;
-use route_load::within_capacity;
+use perturbation::checked;
+use perturbation::Vehicle;
+use exchanged_stops::offset;
+use perturbation::within_capacity;
 
 // Whether the load of route k is within capacity.
 fn within_at(lengths: &[u16], stops: &[u16], k: usize, vehicle: Vehicle, demand: &[i32]) -> bool

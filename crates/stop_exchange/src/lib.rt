@@ -2,18 +2,29 @@
 #![tactic(auto)]
 
 ghost use Rattle.std.specs.Prelude.{◌≡◌};
-ghost use Rattle.models.specs.RouteLimits.{limits_of};
-ghost use Rattle.models.specs.Problem.{problem, Admitted};
-ghost use Rattle.evaluation.specs.Check.{route_checks_needed};
-ghost use Rattle.plan.specs.Plan.{Lent, HasStop, split};
-ghost use Rattle.local_search.specs.Planned.{Planned};
+ghost use Rattle.perturbation.specs.models.RouteLimits.{limits_of};
+ghost use Rattle.perturbation.specs.models.Problem.{problem, Admitted};
+ghost use Rattle.perturbation.specs.evaluation.Check.{route_checks_needed};
+ghost use Rattle.exchanged_stops.specs.plan.Plan.{Lent, HasStop, split};
+ghost use Rattle.perturbation.specs.local_search.Planned.{Planned};
 ghost use Rattle.perturbation.specs.Perturb.{try_exchange};
 
 use crate::check::both_feasible;
 use exchanged_stops::exchange_stops;
-use models::vehicle::Vehicle;
+
 
 pub mod check;
+
+// Of the crates below, passed on to those above.
+pub use perturbation::Vehicle;
+pub use exchanged_stops::copy_part;
+pub use exchanged_stops::offset;
+pub use perturbation::within_capacity;
+pub use perturbation::feasible;
+pub use perturbation::eject;
+pub use perturbation::draws::draw;
+pub use perturbation::draws::draw_bool;
+pub use perturbation::draws::other_than;
 
 // The stop at i of route a and the stop at j of route b, another one, are exchanged; and exchanged back where one of the routes is not feasible then.
 pub fn try_exchange(

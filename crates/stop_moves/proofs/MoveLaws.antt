@@ -7,22 +7,22 @@ use mathlib.Core.Option.{none, some}
 use lib.ListN.{length}
 use mir.Syntax.{w16}
 use mir.Val.{Fits}
-use Rattle.floats.specs.Binary64.{◌⊕◌}
-use Rattle.laws.specs.All.{all_get}
-use Rattle.models.specs.Problem.{Problem, Stops}
-use Rattle.plan.specs.Plan.{Holds, HasPosition, split, route, total, put_in}
-use Rattle.plan.specs.Slices.{length_split, length_route, route_within}
-use Rattle.plan.specs.Routes.{all_put_in}
-use Rattle.route_cost.specs.declared.Insertion.{Insertion}
-use Rattle.route_cost.specs.declared.Best.{Best}
-use Rattle.route_cost.specs.declared.Best.TheVariants.{Nothing as Nowhere, At as Found}
-use Rattle.route_cost.specs.Route.{chosen}
-use Rattle.reinsertion_candidates.specs.declared.Move.{Move}
-use Rattle.reinsertion_candidates.specs.Candidates.{candidates, by_cost, first_passing}
+use Rattle.reinsertion.specs.floats.Binary64.{◌⊕◌}
+use Rattle.reinsertion.specs.laws.All.{all_get}
+use Rattle.reinsertion.specs.models.Problem.{Problem, Stops}
+use Rattle.reinsertion.specs.plan.Plan.{Holds, HasPosition, split, route, total, put_in}
+use Rattle.reinsertion.specs.plan.Slices.{length_split, length_route, route_within}
+use Rattle.reinsertion.specs.plan.Routes.{all_put_in}
+use Rattle.reinsertion.specs.route_cost.declared.Insertion.{Insertion}
+use Rattle.reinsertion.specs.route_cost.declared.Best.{Best}
+use Rattle.reinsertion.specs.route_cost.declared.Best.TheVariants.{Nothing as Nowhere, At as Found}
+use Rattle.reinsertion.specs.route_cost.Route.{chosen}
+use Rattle.reinsertion.specs.reinsertion_candidates.declared.Move.{Move}
+use Rattle.reinsertion.specs.reinsertion_candidates.Candidates.{candidates, by_cost, first_passing}
 use Rattle.elimination_moves.specs.Eliminate.{move_stop}
-use Rattle.reinsertion_candidates.specs.Asked.{Asked, Room}
+use Rattle.reinsertion.specs.reinsertion_candidates.Asked.{Asked, Room}
 use Rattle.stop_moves.specs.Moves.{so_far, Grown, place_inside, move_nowhere, move_there}
-use Rattle.reinsertion_worth.proofs.WorthLaws.{trial_stops}
+use Rattle.reinsertion.proofs.of_reinsertion_worth.WorthLaws.{trial_stops}
 
 module _ (p : Problem) (m : Move) (ls s : List ℕ) (a : Asked p m) (best : Best)
     (e : chosen best ≡ first_passing p (split ls s) m.c m.added m.saved (by_cost (candidates p m.c (split ls s)))) where

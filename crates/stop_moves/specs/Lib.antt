@@ -1,3 +1,15 @@
 -- The stops of a route that are moved.
 -- what the code keeps between them
 pub mod Moves
+-- crates below, passed on to those above
+pub use Rattle.reinsertion.specs.laws as laws
+pub use Rattle.reinsertion.specs.floats as floats
+pub use Rattle.reinsertion.specs.models as models
+pub use Rattle.reinsertion.specs.plan as plan
+pub use Rattle.reinsertion.specs.route_order as route_order
+pub use Rattle.reinsertion.specs.route_cost as route_cost
+pub use Rattle.reinsertion.specs.route_load as route_load
+pub use Rattle.reinsertion.specs.local_search as local_search
+pub use Rattle.reinsertion.specs.reinsertion_worth as reinsertion_worth
+pub use Rattle.reinsertion.specs.reinsertion_candidates as reinsertion_candidates
+pub use Rattle.elimination_moves.specs as elimination_moves

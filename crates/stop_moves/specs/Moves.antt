@@ -7,20 +7,20 @@ use Rattle.std.proofs.Common.{sym, ◌∙◌, subst}
 use mathlib.Core.List.{List, [], ◌∷◌}
 use Rattle.std.proofs.Math.Option.{Option, none, some}
 use Rattle.std.specs.Float.Ieee.{le}
-use Rattle.floats.specs.Binary64.{◌⊕◌}
-use Rattle.laws.specs.Loops.{loop_rule, cond_rule, foldl}
-use Rattle.laws.specs.All.{All}
-use Rattle.models.specs.Problem.{Problem, Admitted, Stops}
-use Rattle.plan.specs.Plan.{Plan, route, split, total, Lent, HasPosition, put_in}
-use Rattle.local_search.specs.Options.{bind, then_some, Each}
-use Rattle.route_cost.specs.declared.Insertion.{Insertion}
-use Rattle.route_load.specs.Feasible.{constrained, has_room}
+use Rattle.reinsertion.specs.floats.Binary64.{◌⊕◌}
+use Rattle.reinsertion.specs.laws.Loops.{loop_rule, cond_rule, foldl}
+use Rattle.reinsertion.specs.laws.All.{All}
+use Rattle.reinsertion.specs.models.Problem.{Problem, Admitted, Stops}
+use Rattle.reinsertion.specs.plan.Plan.{Plan, route, split, total, Lent, HasPosition, put_in}
+use Rattle.reinsertion.specs.local_search.Options.{bind, then_some, Each}
+use Rattle.reinsertion.specs.route_cost.declared.Insertion.{Insertion}
+use Rattle.reinsertion.specs.route_load.Feasible.{constrained, has_room}
 use Rattle.stop_moves.specs.declared.Sum.{Sum}
 use Rattle.stop_moves.specs.declared.Sum.TheVariants.{Nothing, At}
-use Rattle.reinsertion_worth.specs.Worth.{soft, insertion_worth}
-use Rattle.reinsertion_candidates.specs.Candidates.{candidates, by_cost, first_passing}
+use Rattle.reinsertion.specs.reinsertion_worth.Worth.{soft, insertion_worth}
+use Rattle.reinsertion.specs.reinsertion_candidates.Candidates.{candidates, by_cost, first_passing}
 use Rattle.elimination_moves.specs.Eliminate.{Moved, move_to, move_stop}
-use Rattle.reinsertion_candidates.specs.Place.{counts, comes_first, settles, look_at, look_through, look_over, unless_cut, place_is}
+use Rattle.reinsertion.specs.reinsertion_candidates.Place.{counts, comes_first, settles, look_at, look_through, look_over, unless_cut, place_is}
 
 -- the other routes so far, and what was added to their worth
 abbrev pub so_far : Plan → Float → Moved

@@ -2,17 +2,32 @@
 #![tactic(auto)]
 
 ghost use Rattle.std.specs.Prelude.{◌≡◌, ◌+◌, ◌<◌, length};
-ghost use Rattle.models.specs.Problem.{problem};
-ghost use Rattle.plan.specs.Plan.{split, total};
+ghost use Rattle.reinsertion.specs.models.Problem.{problem};
+ghost use Rattle.reinsertion.specs.plan.Plan.{split, total};
 ghost use Rattle.elimination_moves.specs.Eliminate.{move_stop};
-ghost use Rattle.reinsertion_candidates.specs.Asked.{Asked, Room};
+ghost use Rattle.reinsertion.specs.reinsertion_candidates.Asked.{Asked, Room};
 ghost use Rattle.stop_moves.specs.Moves.{so_far, held_by, Kept};
 
-use models::vehicle::Vehicle;
-use plan::put_in;
+
+use reinsertion::put_in;
 use reinsertion::place;
-use reinsertion_candidates::Move;
-use route_cost::Best;
+
+use reinsertion::RouteCostBest as Best;
+
+// Of the crates below, passed on to those above.
+pub use reinsertion::is_finite;
+pub use reinsertion::Vehicle;
+pub use reinsertion::has_soft_windows;
+pub use reinsertion::Pick;
+pub use reinsertion::next_pick;
+pub use reinsertion::route_cost_gain_floor;
+pub use reinsertion::constrained;
+pub use reinsertion::Counts;
+pub use reinsertion::LocalSearchNext;
+pub use reinsertion::Reduction;
+pub use reinsertion::worth;
+pub use reinsertion::Move;
+pub use elimination_moves::take_largest;
 
 // What was added to the worth of the other routes, or nothing once a stop has no place.
 #[derive(Clone, Copy)]

@@ -3,25 +3,25 @@ use Prim.Native.Nat.{ℕ}
 use mathlib.Core.Path.{◌≡◌, ap, ◌∙◌}
 use mathlib.Core.Bool.{Bool, true, false}
 use lib.Ieee.{Float}
-use Rattle.models.specs.declared.customer.TimeWindow.{TimeWindow}
-use Rattle.models.specs.declared.customer.Window.{Window}
-use Rattle.models.specs.declared.customer.Window.TheVariants.{None as NoWindow, Is}
-use Rattle.break_clock.specs.declared.route_eval.Eval.{Eval}
-use Rattle.break_clock.specs.declared.route_eval.Eval.TheVariants.{Infeasible, Feasible}
-use Rattle.break_clock.specs.declared.route_eval.RouteEval.{RouteEval}
-use Rattle.labels.specs.declared.Taken.{Taken}
-use Rattle.labels.specs.declared.Taken.TheVariants.{No, At}
-use Rattle.local_search.specs.declared.rounds.Reduction.{Reduction}
-use Rattle.planner.specs.declared.calls.Replied.{Replied}
-use Rattle.planner.specs.declared.calls.Replied.TheVariants.{Refused as NotReplied, Answered as RepliedAs}
+use Rattle.planner_questions.specs.models.declared.customer.TimeWindow.{TimeWindow}
+use Rattle.planner_questions.specs.models.declared.customer.Window.{Window}
+use Rattle.planner_questions.specs.models.declared.customer.Window.TheVariants.{None as NoWindow, Is}
+use Rattle.planner_questions.specs.break_clock.declared.route_eval.Eval.{Eval}
+use Rattle.planner_questions.specs.break_clock.declared.route_eval.Eval.TheVariants.{Infeasible, Feasible}
+use Rattle.planner_questions.specs.break_clock.declared.route_eval.RouteEval.{RouteEval}
+use Rattle.planner_questions.specs.labels.declared.Taken.{Taken}
+use Rattle.planner_questions.specs.labels.declared.Taken.TheVariants.{No, At}
+use Rattle.planner_questions.specs.local_search.declared.rounds.Reduction.{Reduction}
+use Rattle.planner_questions.specs.planner.declared.calls.Replied.{Replied}
+use Rattle.planner_questions.specs.planner.declared.calls.Replied.TheVariants.{Refused as NotReplied, Answered as RepliedAs}
 use Rattle.planner_questions.specs.declared.Checked.{Checked}
 use Rattle.planner_questions.specs.declared.Checked.TheVariants.{Refused as NotChecked, Answered as CheckedAs}
 use Rattle.planner_questions.specs.declared.Evaluated.{Evaluated}
 use Rattle.planner_questions.specs.declared.Evaluated.TheVariants.{Refused as NotEvaluated, Answered as EvaluatedAs}
 use Rattle.planner_questions.specs.declared.Number.{Number}
 use Rattle.planner_questions.specs.declared.Number.TheVariants.{Refused as NoNumber, Answered as NumberAs}
-use Rattle.planner.specs.Calls.{Answer}
-use Rattle.planner.specs.Told.{replied_told}
+use Rattle.planner_questions.specs.planner.Calls.{Answer}
+use Rattle.planner_questions.specs.planner.Told.{replied_told}
 use Rattle.planner_questions.specs.Told.{checked_told, evaluated_told, number_told}
 use Rattle.stored_answers.specs.declared.Stored.{Stored}
 use Rattle.stored_answers.specs.Answers.{stored, bits, refusal_stored, checked_stored, number_stored, route_stored, eval_stored, evaluated_stored, window_stored, reply_stored, same_stored}

@@ -2,16 +2,16 @@
 use Rattle.std.specs.Prelude.{ℕ, List, [], ◌∷◌, Bool, true, false, cond, ◌&&◌, eqb, Float}
 use Rattle.std.specs.Float.{binary64}
 use Rattle.std.specs.Float.Ieee.{to_bits}
-use Rattle.models.specs.declared.customer.Window.{Window}
-use Rattle.models.specs.declared.customer.Window.TheVariants.{None as NoWindow, Is}
-use Rattle.break_clock.specs.declared.route_eval.Eval.{Eval}
-use Rattle.break_clock.specs.declared.route_eval.Eval.TheVariants.{Infeasible, Feasible}
-use Rattle.break_clock.specs.declared.route_eval.RouteEval.{RouteEval}
-use Rattle.labels.specs.declared.Taken.{Taken}
-use Rattle.labels.specs.declared.Taken.TheVariants.{No, At}
-use Rattle.plan.specs.Plan.{Slices}
-use Rattle.local_search.specs.declared.rounds.Reduction.{Reduction}
-use Rattle.planner.specs.Calls.{Answer, refused, answered}
+use Rattle.planner_questions.specs.models.declared.customer.Window.{Window}
+use Rattle.planner_questions.specs.models.declared.customer.Window.TheVariants.{None as NoWindow, Is}
+use Rattle.planner_questions.specs.break_clock.declared.route_eval.Eval.{Eval}
+use Rattle.planner_questions.specs.break_clock.declared.route_eval.Eval.TheVariants.{Infeasible, Feasible}
+use Rattle.planner_questions.specs.break_clock.declared.route_eval.RouteEval.{RouteEval}
+use Rattle.planner_questions.specs.labels.declared.Taken.{Taken}
+use Rattle.planner_questions.specs.labels.declared.Taken.TheVariants.{No, At}
+use Rattle.planner_questions.specs.plan.Plan.{Slices}
+use Rattle.planner_questions.specs.local_search.declared.rounds.Reduction.{Reduction}
+use Rattle.planner_questions.specs.planner.Calls.{Answer, refused, answered}
 use Rattle.stored_answers.specs.declared.Stored.{Stored}
 
 -- a tag and six numbers

@@ -2,14 +2,15 @@
 #![tactic(auto)]
 
 ghost use Rattle.std.specs.Prelude.{◌≡◌};
-ghost use Rattle.planner.specs.Told.{replied_told};
+ghost use Rattle.planner_questions.specs.planner.Told.{replied_told};
 ghost use Rattle.planner_questions.specs.Told.{checked_told, evaluated_told, number_told};
 ghost use Rattle.stored_answers.specs.Answers.{stored, refusal_stored, checked_stored, number_stored, route_stored, eval_stored, evaluated_stored, window_stored, reply_stored};
 
-use break_clock::route_eval::{Eval, RouteEval};
-use labels::Taken;
-use models::customer::Window;
-use planner::calls::Replied;
+use planner_questions::Eval;
+use planner_questions::RouteEval;
+use planner_questions::Taken;
+use planner_questions::Window;
+use planner_questions::Replied;
 use planner_questions::{Checked, Evaluated, Number};
 use stored_values::bits_of;
 

@@ -6,13 +6,13 @@ use mathlib.Core.List.{List, ◌++◌}
 use lib.ListN.{take, drop}
 use lib.IntN.{ℤ}
 use lib.Ieee.{Float}
-use Rattle.models.specs.declared.vehicle.Vehicle.{Vehicle}
-use Rattle.models.specs.Problem.{Problem, problem, of_demand}
-use Rattle.plan.specs.Plan.{Plan, Holds, HasPosition, split, route, total, non_empty, exchange_tails}
-use Rattle.plan.specs.Exchanges.{first_exchange_tails, second_exchange_tails}
-use Rattle.route_load.specs.Feasible.{load, fits, feasible}
-use Rattle.perturbation.specs.Perturb.{try_tails}
-use Rattle.perturbation.specs.Parts.{joined, joined_stands}
+use Rattle.joined_tails.specs.models.declared.vehicle.Vehicle.{Vehicle}
+use Rattle.joined_tails.specs.models.Problem.{Problem, problem, of_demand}
+use Rattle.route_exchange.specs.plan.Plan.{Plan, Holds, HasPosition, split, route, total, non_empty, exchange_tails}
+use Rattle.route_exchange.specs.plan.Exchanges.{first_exchange_tails, second_exchange_tails}
+use Rattle.joined_tails.specs.route_load.Feasible.{load, fits, feasible}
+use Rattle.joined_tails.specs.perturbation.Perturb.{try_tails}
+use Rattle.joined_tails.specs.perturbation.Parts.{joined, joined_stands}
 
 -- ---- both routes as they would be, and the move
 

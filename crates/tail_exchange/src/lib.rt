@@ -2,17 +2,25 @@
 #![tactic(auto)]
 
 ghost use Rattle.std.specs.Prelude.{◌≡◌, ◌&&◌, ◌≤◌, length};
-ghost use Rattle.models.specs.RouteLimits.{limits_of};
-ghost use Rattle.models.specs.Problem.{problem, Admitted};
-ghost use Rattle.evaluation.specs.Check.{route_checks_needed};
-ghost use Rattle.plan.specs.Plan.{Holds, Lent, HasPosition, split, total};
-ghost use Rattle.local_search.specs.Planned.{Planned};
-ghost use Rattle.perturbation.specs.Perturb.{try_tails};
-ghost use Rattle.perturbation.specs.Parts.{joined_stands};
+ghost use Rattle.joined_tails.specs.models.RouteLimits.{limits_of};
+ghost use Rattle.joined_tails.specs.models.Problem.{problem, Admitted};
+ghost use Rattle.joined_tails.specs.evaluation.Check.{route_checks_needed};
+ghost use Rattle.route_exchange.specs.plan.Plan.{Holds, Lent, HasPosition, split, total};
+ghost use Rattle.joined_tails.specs.local_search.Planned.{Planned};
+ghost use Rattle.joined_tails.specs.perturbation.Perturb.{try_tails};
+ghost use Rattle.joined_tails.specs.perturbation.Parts.{joined_stands};
 
 use joined_tails::{joined_stands, joined_within};
-use models::vehicle::Vehicle;
+
 use route_exchange::exchange_tails;
+
+// Of the crates below, passed on to those above.
+pub use joined_tails::Vehicle;
+pub use joined_tails::eject;
+pub use joined_tails::draw;
+pub use joined_tails::draw_bool;
+pub use joined_tails::other_than;
+pub use joined_tails::try_exchange;
 
 // Whether both routes stand after the tail of route a from i and the tail of route b from j are exchanged: a check is made only where both loads are
 // within capacity.

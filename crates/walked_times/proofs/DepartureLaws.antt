@@ -12,14 +12,14 @@ use lib.Ieee.{Float}
 use mir.Syntax.{w64}
 use mir.Val.{Fits}
 use borrow.Author.Rules.{scaled_Fits}
-use Rattle.floats.specs.Binary64.{0f}
-use Rattle.models.specs.Customer.{Customers}
-use Rattle.models.specs.Problem.{DistanceMatrix, Fit, Stops}
-use Rattle.evaluation.specs.declared.check.Left.{Left}
-use Rattle.evaluation.specs.declared.check.Left.TheVariants.{Missed, At as LeftAt}
-use Rattle.break_clock.proofs.StopLaws.{stop_laws}
-use Rattle.quick_test.specs.Quick.{then_on, departures_from, departures}
-use Rattle.quick_test.specs.Parts.{leave}
+use Rattle.latest_times.specs.floats.Binary64.{0f}
+use Rattle.latest_times.specs.models.Customer.{Customers}
+use Rattle.latest_times.specs.models.Problem.{DistanceMatrix, Fit, Stops}
+use Rattle.latest_times.specs.evaluation.declared.check.Left.{Left}
+use Rattle.latest_times.specs.evaluation.declared.check.Left.TheVariants.{Missed, At as LeftAt}
+use Rattle.latest_times.proofs.of_break_clock.StopLaws.{stop_laws}
+use Rattle.latest_times.specs.quick_test.Quick.{then_on, departures_from, departures}
+use Rattle.latest_times.specs.quick_test.Parts.{leave}
 
 -- ---- the walk over the stops: those that are left already, then the others
 

@@ -10,11 +10,11 @@ use lib.Ieee.{Float, nan}
 use mir.Syntax.{w64}
 use mir.Val.{Fits}
 use borrow.Author.Rules.{scaled_Fits}
-use Rattle.floats.specs.Binary64.{+∞}
-use Rattle.models.specs.Customer.{Customers, customer_at}
-use Rattle.models.specs.Problem.{DistanceMatrix, Fit, Stops}
-use Rattle.break_clock.proofs.StopLaws.{stop_laws}
-use Rattle.quick_test.specs.Quick.{latest_arrival, latest_arrivals}
+use Rattle.latest_times.specs.floats.Binary64.{+∞}
+use Rattle.latest_times.specs.models.Customer.{Customers, customer_at}
+use Rattle.latest_times.specs.models.Problem.{DistanceMatrix, Fit, Stops}
+use Rattle.latest_times.proofs.of_break_clock.StopLaws.{stop_laws}
+use Rattle.latest_times.specs.quick_test.Quick.{latest_arrival, latest_arrivals}
 
 -- ---- the walk from the last stop to the first
 

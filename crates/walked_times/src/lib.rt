@@ -3,15 +3,38 @@
 #![tactic(auto)]
 
 ghost use Rattle.std.specs.Prelude.{◌≡◌, ◌≤◌, ◌<◌, length, take, drop};
-ghost use Rattle.models.specs.Customer.{customers};
-ghost use Rattle.models.specs.Problem.{matrix, Fit, Stops};
-ghost use Rattle.quick_test.specs.Quick.{departures, latest_arrivals};
-ghost use Rattle.quick_test.specs.Parts.{told};
+ghost use Rattle.latest_times.specs.models.Customer.{customers};
+ghost use Rattle.latest_times.specs.models.Problem.{matrix, Fit, Stops};
+ghost use Rattle.latest_times.specs.quick_test.Quick.{departures, latest_arrivals};
+ghost use Rattle.latest_times.specs.quick_test.Parts.{told};
 
-use evaluation::check::Left;
-use float_functions::infinity;
+use latest_times::Left;
+use latest_times::infinity;
 use latest_times::latest_arrival;
-use quick_test::leave;
+use latest_times::leave;
+
+// Of the crates below, passed on to those above.
+pub use latest_times::Vehicle;
+pub use latest_times::copy_part;
+pub use latest_times::offset;
+pub use latest_times::put_in;
+pub use latest_times::take_out;
+pub use latest_times::Pick;
+pub use latest_times::next_pick;
+pub use latest_times::RouteCostBest;
+pub use latest_times::Insertion;
+pub use latest_times::insertion_cost_insertion_cost;
+pub use latest_times::has_room;
+pub use latest_times::within_capacity;
+pub use latest_times::rounds;
+pub use latest_times::checked;
+pub use latest_times::constrained;
+pub use latest_times::feasible;
+pub use latest_times::trial_ok;
+pub use latest_times::Counts;
+pub use latest_times::LocalSearchNext;
+pub use latest_times::Reduction;
+pub use latest_times::may_fit;
 
 // The time each stop of a route is left goes to the first cells; false where one is reached after its window closes.
 pub fn departures(

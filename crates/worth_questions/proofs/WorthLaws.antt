@@ -3,14 +3,14 @@ use Prim.Native.Nat.{ℕ}
 use mathlib.Core.Path.{◌≡◌, ap, ◌∙◌}
 use mathlib.Core.List.{List}
 use lib.Ieee.{Float}
-use Rattle.models.specs.declared.limits.RouteLimits.{RouteLimits}
-use Rattle.models.specs.RouteLimits.{limits_of}
-use Rattle.models.specs.Problem.{Problem, depot}
-use Rattle.break_clock.specs.declared.route_eval.Eval.{Eval}
-use Rattle.evaluation.specs.Eval.{route_eval, effective_cost}
-use Rattle.entry.specs.Table.{refusal}
-use Rattle.entry.specs.Given.{numbered, route_inputs}
-use Rattle.planner.specs.Calls.{refused, answered, public_route_eval, public_effective_cost}
+use Rattle.planner_questions.specs.models.declared.limits.RouteLimits.{RouteLimits}
+use Rattle.planner_questions.specs.models.RouteLimits.{limits_of}
+use Rattle.planner_questions.specs.models.Problem.{Problem, depot}
+use Rattle.planner_questions.specs.break_clock.declared.route_eval.Eval.{Eval}
+use Rattle.planner_questions.specs.evaluation.Eval.{route_eval, effective_cost}
+use Rattle.planner_questions.specs.entry.Table.{refusal}
+use Rattle.planner_questions.specs.entry.Given.{numbered, route_inputs}
+use Rattle.planner_questions.specs.planner.Calls.{refused, answered, public_route_eval, public_effective_cost}
 use Rattle.planner_questions.proofs.QuestionLaws.{refuses, answers}
 
 module _ (p : Problem) (r : ℕ) (route : List ℕ) (e : numbered r ≡ refusal (route_inputs p route)) where

@@ -2,15 +2,22 @@
 #![tactic(auto)]
 
 ghost use Rattle.std.specs.Prelude.{◌≡◌};
-ghost use Rattle.models.specs.Problem.{problem};
-ghost use Rattle.planner.specs.Calls.{public_route_eval, public_effective_cost};
+ghost use Rattle.planner_questions.specs.models.Problem.{problem};
+ghost use Rattle.planner_questions.specs.planner.Calls.{public_route_eval, public_effective_cost};
 ghost use Rattle.planner_questions.specs.Told.{evaluated_told, number_told};
 
-use break_clock::route_eval::Eval;
-use models::limits::RouteLimits;
-use models::vehicle::Vehicle;
+use planner_questions::Eval;
+use planner_questions::RouteLimits;
+
 use planner_questions::{Evaluated, Number};
-use refusals::calls::route_refusal;
+use planner_questions::route_refusal;
+
+// Of the crates below, passed on to those above.
+pub use planner_questions::Vehicle;
+pub use planner_questions::VehicleBreak;
+pub use planner_questions::route_distance as planner_questions_route_distance;
+pub use planner_questions::route_feasible as planner_questions_route_feasible;
+pub use planner_questions::schedule as planner_questions_schedule;
 
 // The evaluation of a route.
 pub fn route_eval(
@@ -35,7 +42,7 @@ pub fn route_eval(
     if r != 0 {
         return Evaluated::Refused(r); // not evaluated
     }
-    let worth = route_worth::route_eval(
+    let worth = planner_questions::route_worth_route_eval(
         route,
         vehicle.depot_id,
         RouteLimits::of(vehicle),
@@ -74,7 +81,7 @@ pub fn effective_cost(
     if r != 0 {
         return Number::Refused(r); // not weighed
     }
-    let cost = route_worth::effective_cost(
+    let cost = planner_questions::route_worth_effective_cost(
         route,
         vehicle.depot_id,
         RouteLimits::of(vehicle),

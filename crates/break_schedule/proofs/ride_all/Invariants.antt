@@ -2,8 +2,8 @@
 use Prim.Native.Nat.{◌-◌}
 use lib.ListN.{length}
 use Rattle.break_clock.proofs.ScheduleLaws.{RidingAlong}
-use Rattle.models.specs.Customer.{customers}
-use Rattle.models.specs.Problem.{matrix}
+use Rattle.break_clock.specs.models.Customer.{customers}
+use Rattle.break_clock.specs.models.Problem.{matrix}
 use Rattle.break_schedule.proofs.ride_all.Given as goal
 
 abbrev pub invariant-loop-i : goal.invariant-loop-i

@@ -1,10 +1,10 @@
 -- `put_checked` meets its contract.
 use mathlib.Core.Path.{ap, ◌∙◌}
 use mathlib.Core.List.{[]}
-use Rattle.planner.specs.Calls.{answered}
-use Rattle.planner_questions.specs.Told.{checked_told}
-use Rattle.c_values.specs.Said.{values}
-use Rattle.c_values.proofs.AnswerLaws.{one_cell, put_refused, put_answered}
+use Rattle.c_evaluations.specs.planner.Calls.{answered}
+use Rattle.c_evaluations.specs.planner_questions.Told.{checked_told}
+use Rattle.c_evaluations.specs.c_values.Said.{values}
+use Rattle.c_evaluations.proofs.of_c_values.AnswerLaws.{one_cell, put_refused, put_answered}
 use borrow.Author.Rules.{rules}
 use Rattle.c_answers.proofs.put_checked.Statement.{statement}
 use Rattle.c_answers.proofs.put_checked.Tie as tie

@@ -1,9 +1,9 @@
 -- `put_reply` meets its contract.
 use mathlib.Core.Path.{ap}
 use mathlib.Core.List.{[]}
-use Rattle.planner.specs.Told.{replied_told}
-use Rattle.c_values.specs.Said.{values}
-use Rattle.c_values.proofs.AnswerLaws.{put_refused, put_answered}
+use Rattle.c_evaluations.specs.planner.Told.{replied_told}
+use Rattle.c_evaluations.specs.c_values.Said.{values}
+use Rattle.c_evaluations.proofs.of_c_values.AnswerLaws.{put_refused, put_answered}
 use borrow.Author.Rules.{rules}
 use Rattle.c_answers.proofs.put_reply.Statement.{statement}
 use Rattle.c_answers.proofs.put_reply.Tie as tie

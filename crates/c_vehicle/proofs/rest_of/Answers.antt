@@ -1,5 +1,5 @@
 -- `rest_of` meets its contract: what the check does not find alone.
-use Rattle.laws.specs.Picks.{picks}
+use Rattle.models.specs.laws.Picks.{picks}
 use Rattle.c_vehicle.proofs.rest_of.Goals as goal
 
 pub returns-then-there : goal.returns-then-there

@@ -1,8 +1,8 @@
 -- `run_all` meets its contract.
 use Prim.Native.Nat.{◌-◌}
 use native.Mathlib.Omega.{arith}
-use Rattle.models.specs.Problem.{problem}
-use Rattle.call_words.specs.Words.{buffers}
+use Rattle.recorded_call.specs.models.Problem.{problem}
+use Rattle.recorded_call.specs.call_words.Words.{buffers}
 use Rattle.call_lists.proofs.RunLaws.{Running, running_start, running_words, running_next, running_more, running_end}
 use Rattle.call_lists.proofs.run_all.Statement.{statement}
 use Rattle.call_lists.proofs.run_all.Tie as tie

@@ -2,7 +2,7 @@
 use mathlib.Core.Path.{refl}
 use borrow.Author.Tests.{not-true, not-false}
 use borrow.Author.Rules.{rules}
-use Rattle.laws.specs.Picks.{via}
+use Rattle.recorded_call.specs.laws.Picks.{via}
 use Rattle.call_lists.proofs.run_calls.Statement.{statement}
 use Rattle.call_lists.proofs.run_calls.Tie as tie
 

@@ -1,6 +1,6 @@
 -- `call_passes` meets its contract: what the check does not find alone.
 use borrow.Author.Tests.{le-leb, lt-leb, not-true, not-false}
-use Rattle.laws.specs.Picks.{picks}
+use Rattle.planner.specs.laws.Picks.{picks}
 use Rattle.call_words.specs.Words.{call_passes}
 use Rattle.call_words.proofs.call_passes.Goals as goal
 

@@ -1,5 +1,5 @@
 -- `kind_passes` meets its contract: what the check does not find alone.
-use Rattle.laws.specs.Picks.{picks}
+use Rattle.planner.specs.laws.Picks.{picks}
 use Rattle.call_words.specs.Words.{kind_passes}
 use Rattle.call_words.proofs.kind_passes.Goals as goal
 

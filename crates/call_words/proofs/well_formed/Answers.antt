@@ -1,6 +1,6 @@
 -- `well_formed` meets its contract: what the check does not find alone.
 use borrow.Author.Tests.{not-true, not-false}
-use Rattle.laws.specs.Picks.{picks}
+use Rattle.planner.specs.laws.Picks.{picks}
 use Rattle.call_words.specs.Words.{well_formed}
 use Rattle.call_words.proofs.well_formed.Goals as goal
 

@@ -1,7 +1,7 @@
 -- What the loops of `cheapest` keep.
 use Prim.Native.Nat.{◌-◌}
 use lib.ListN.{length}
-use Rattle.models.specs.Problem.{problem}
+use Rattle.route_insertion.specs.models.Problem.{problem}
 use Rattle.cheapest_insertion.proofs.PlanLaws.{Seeking}
 use Rattle.cheapest_insertion.proofs.cheapest.Given as goal
 

@@ -1,6 +1,6 @@
 -- `get` meets its contract: what the check does not find alone.
 use borrow.Author.Rules.{rules}
-use Rattle.laws.specs.Matrix.{cell_laws}
+use Rattle.place_record.specs.laws.Matrix.{cell_laws}
 use Rattle.distance.proofs.get.Goals as goal
 
 pub overflow_mul-result : goal.overflow_mul-result

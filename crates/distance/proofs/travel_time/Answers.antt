@@ -1,6 +1,6 @@
 -- `travel_time` meets its contract: what the check does not find alone.
 use borrow.Author.Rules.{rules}
-use Rattle.laws.specs.Picks.{picks}
+use Rattle.place_record.specs.laws.Picks.{picks}
 use Rattle.distance.proofs.MatrixLaws.{times_there}
 use Rattle.distance.proofs.travel_time.Goals as goal
 

@@ -3,10 +3,10 @@ use Prim.Native.Nat.{◌-◌}
 use mathlib.Core.Path.{ap}
 use mathlib.Core.Bool.{not}
 use native.Mathlib.Omega.{arith}
-use Rattle.route_cost.specs.Route.{insertion_cost}
+use Rattle.ejection.specs.route_cost.Route.{insertion_cost}
 use Rattle.ejection.specs.Eject.{chosen, outranks}
 use Rattle.ejection_positions.specs.Pass.{none_outranks}
-use Rattle.laws.specs.Passed.{passed_one, failed_one, every_laws}
+use Rattle.ejection.specs.laws.Passed.{passed_one, failed_one, every_laws}
 use Rattle.ejection_positions.proofs.PositionLaws.{rank_told}
 use Rattle.ejection_positions.proofs.none_outranks.Goals as goal
 

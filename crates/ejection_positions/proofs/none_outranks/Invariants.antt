@@ -3,10 +3,10 @@ use Prim.Native.Nat.{suc, ◌-◌}
 use mathlib.Core.Bool.{not}
 use mathlib.Core.List.{[]}
 use lib.ListN.{length}
-use Rattle.models.specs.Problem.{matrix}
-use Rattle.route_cost.specs.Route.{insertion_cost}
+use Rattle.ejection.specs.models.Problem.{matrix}
+use Rattle.ejection.specs.route_cost.Route.{insertion_cost}
 use Rattle.ejection.specs.Eject.{chosen, outranks}
-use Rattle.laws.specs.Passed.{Passed}
+use Rattle.ejection.specs.laws.Passed.{Passed}
 use Rattle.ejection_positions.proofs.none_outranks.Given as goal
 
 abbrev pub invariant-loop-pos : goal.invariant-loop-pos

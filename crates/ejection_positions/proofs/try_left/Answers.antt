@@ -1,6 +1,6 @@
 -- `try_left` meets its contract: what the check does not find alone.
 use native.Mathlib.Omega.{arith}
-use Rattle.route_load.proofs.FeasibleLaws.{demands_own, stops_own, place_own}
+use Rattle.ejection.proofs.of_route_load.FeasibleLaws.{demands_own, stops_own, place_own}
 use Rattle.ejection_positions.proofs.PositionLaws.{kept_laws}
 use Rattle.ejection_positions.proofs.try_left.Goals as goal
 

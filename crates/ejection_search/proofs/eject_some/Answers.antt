@@ -1,6 +1,6 @@
 -- `eject_some` meets its contract: what the check does not find alone.
 use Prim.Native.Nat.{◌-◌}
-use Rattle.route_cost.proofs.VisitLaws.{part_end, part_end_fits}
+use Rattle.route_ejection.proofs.of_route_cost.VisitLaws.{part_end, part_end_fits}
 use Rattle.ejection_search.proofs.SearchLaws.{over_start, over_sought, over_more, over_end}
 use native.Mathlib.Omega.{arith}
 use Rattle.ejection_search.proofs.eject_some.Goals as goal

@@ -1,7 +1,7 @@
 -- What the loops of `eject_some` keep.
 use Prim.Native.Nat.{◌-◌}
 use lib.ListN.{length}
-use Rattle.models.specs.Problem.{problem}
+use Rattle.route_ejection.specs.models.Problem.{problem}
 use Rattle.ejection_search.proofs.SearchLaws.{Over}
 use Rattle.ejection_search.proofs.eject_some.Given as goal
 

@@ -1,5 +1,5 @@
 -- `min` meets its contract: what the check does not find alone.
-use Rattle.laws.specs.Picks.{picks}
+use Rattle.floats.specs.laws.Picks.{picks}
 use Rattle.floats.specs.Binary64.{min}
 use Rattle.floats.specs.Functions.{nan_tested}
 use Rattle.float_functions.proofs.min.Goals as goal

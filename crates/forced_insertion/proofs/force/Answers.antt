@@ -1,6 +1,6 @@
 -- `force` meets its contract: what the check does not find alone.
 use mathlib.Core.Path.{refl}
-use Rattle.local_search.specs.Planned.{planned_stops}
+use Rattle.cheapest_insertion.specs.local_search.Planned.{planned_stops}
 use Rattle.forced_insertion.proofs.PoolLaws.{leaves_inside, room_lent, room_planned, forced, forced_lent, stuck}
 use native.Mathlib.Omega.{arith}
 use Rattle.forced_insertion.proofs.force.Goals as goal

@@ -1,5 +1,5 @@
 -- `place` meets its contract: what the check does not find alone.
-use Rattle.local_search.specs.Planned.{planned_stops}
+use Rattle.cheapest_insertion.specs.local_search.Planned.{planned_stops}
 use Rattle.forced_insertion.proofs.PoolLaws.{nowhere, nowhere_put, somewhere, somewhere_inside, somewhere_put}
 use Rattle.forced_insertion.proofs.place.Goals as goal
 

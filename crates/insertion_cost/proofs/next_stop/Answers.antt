@@ -1,5 +1,5 @@
 -- `next_stop` meets its contract: what the check does not find alone.
-use Rattle.laws.specs.Picks.{picks}
+use Rattle.local_search.specs.laws.Picks.{picks}
 use Rattle.insertion_cost.proofs.next_stop.Goals as goal
 
 pub returns-then-pos-route : goal.returns-then-pos-route

@@ -1,6 +1,6 @@
 -- `prev_stop` meets its contract: what the check does not find alone.
 use Prim.Native.Nat.{◌-◌}
-use Rattle.laws.specs.Picks.{picks}
+use Rattle.local_search.specs.laws.Picks.{picks}
 use Rattle.insertion_cost.proofs.prev_stop.Goals as goal
 
 pub returns-then-pos-eq0 : goal.returns-then-pos-eq0

@@ -1,5 +1,5 @@
 -- `joined_within` meets its contract: what the check does not find alone.
-use Rattle.models.specs.Problem.{of_demand}
+use Rattle.stop_exchange.specs.models.Problem.{of_demand}
 use Rattle.joined_tails.proofs.JoinLaws.{cells_stops, cells_within}
 use Rattle.joined_tails.proofs.joined_within.Goals as goal
 

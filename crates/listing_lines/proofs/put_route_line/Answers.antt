@@ -1,7 +1,7 @@
 -- `put_route_line` meets its contract: what the check does not find alone.
 use Rattle.listing_numbers.proofs.DigitLaws.{handed_on, room_handed}
-use Rattle.listing.proofs.WriteLaws.{text_more, text_last, room_first, room_more}
-use Rattle.listing.specs.Listing.{route_line}
+use Rattle.listing_numbers.proofs.of_listing.WriteLaws.{text_more, text_last, room_first, room_more}
+use Rattle.listing_numbers.specs.listing.Listing.{route_line}
 use Rattle.listing_lines.proofs.put_route_line.Goals as goal
 
 pub put_decimal-a-requires : goal.put_decimal-a-requires

@@ -1,6 +1,6 @@
 -- `put_stop` meets its contract: what the check does not find alone.
-use Rattle.listing.proofs.WriteLaws.{text_more, text_last, room_first, room_more}
-use Rattle.listing.specs.Listing.{stop}
+use Rattle.listing_numbers.proofs.of_listing.WriteLaws.{text_more, text_last, room_first, room_more}
+use Rattle.listing_numbers.specs.listing.Listing.{stop}
 use Rattle.listing_lines.proofs.put_stop.Goals as goal
 
 pub put_bytes-a-requires : goal.put_bytes-a-requires

@@ -1,7 +1,7 @@
 -- `put_stops` meets its contract: what the check does not find alone.
 use Prim.Native.Nat.{◌-◌}
 use borrow.Author.Rules.{rules}
-use Rattle.listing.proofs.WriteLaws.{writing_start, writing_end, writing_more, writing_room, room_front, stops_more, stops_end}
+use Rattle.listing_numbers.proofs.of_listing.WriteLaws.{writing_start, writing_end, writing_more, writing_room, room_front, stops_more, stops_end}
 use Rattle.listing_lines.proofs.put_stops.Goals as goal
 
 pub loop-i-init : goal.loop-i-init

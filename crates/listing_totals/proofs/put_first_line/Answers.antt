@@ -1,6 +1,6 @@
 -- `put_first_line` meets its contract: what the check does not find alone.
-use Rattle.listing.proofs.WriteLaws.{text_more, text_last, room_first, room_more}
-use Rattle.listing.specs.Listing.{first_line}
+use Rattle.listing_numbers.proofs.of_listing.WriteLaws.{text_more, text_last, room_first, room_more}
+use Rattle.listing_numbers.specs.listing.Listing.{first_line}
 use Rattle.listing_totals.proofs.put_first_line.Goals as goal
 
 pub put_bytes-a-requires : goal.put_bytes-a-requires

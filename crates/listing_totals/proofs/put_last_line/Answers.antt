@@ -1,6 +1,6 @@
 -- `put_last_line` meets its contract: what the check does not find alone.
-use Rattle.listing.proofs.WriteLaws.{text_more, text_last, room_first, room_more}
-use Rattle.listing.specs.Listing.{last_line}
+use Rattle.listing_numbers.proofs.of_listing.WriteLaws.{text_more, text_last, room_first, room_more}
+use Rattle.listing_numbers.specs.listing.Listing.{last_line}
 use Rattle.listing_totals.proofs.put_last_line.Goals as goal
 
 pub put_bytes-a-requires : goal.put_bytes-a-requires

@@ -1,7 +1,7 @@
 -- `put_listing` meets its contract. Assumes nothing.
 use mathlib.Core.Path.{sym, ◌∙◌}
 use lib.Seq.{length-take-le}
-use Rattle.listing.specs.Listing.{of_listing}
+use Rattle.listing_totals.specs.listing.Listing.{of_listing}
 use Rattle.listing_whole.proofs.WholeLaws.{taken_lent, taken_all, first_room, routes_room, last_room, listing-written}
 use Rattle.listing_whole.proofs.put_listing.Statement.{statement}
 use Rattle.listing_whole.proofs.put_listing.Tie as tie

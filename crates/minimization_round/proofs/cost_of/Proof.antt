@@ -2,7 +2,7 @@
 use mathlib.Core.Path.{sym}
 use borrow.Author.Rules.{rules}
 use lib.Seq.{length-take-le}
-use Rattle.local_search.specs.Planned.{planned_stops}
+use Rattle.minimization.specs.local_search.Planned.{planned_stops}
 use Rattle.minimization_round.proofs.cost_of.Statement.{statement}
 use Rattle.minimization_round.proofs.cost_of.Tie as tie
 

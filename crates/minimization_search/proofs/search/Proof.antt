@@ -2,14 +2,14 @@
 use mathlib.Core.Path.{◌≡◌, refl, sym, ap, ◌∙◌}
 use native.Mathlib.Nat.{le_of_eq, le_trans}
 use lib.ListN.{length, take}
-use Rattle.models.specs.Problem.{problem}
-use Rattle.plan.specs.Plan.{split, drop_zero}
-use Rattle.route_order.specs.Order.{following}
-use Rattle.ejection_pool.specs.Running.{allowance}
-use Rattle.route_cost.specs.Route.{cost}
-use Rattle.local_search.proofs.SearchLaws.{Rounding, Trying, rounding_start, round_lent, round_same, trying_start, front_length, front_in, trying_routes, trying_routes_few, back_long, at_end, after_kept_less, after_kept, after_accepted_less, after_accepted}
-use Rattle.pool_cost.specs.Attempt.{attempt}
-use Rattle.minimization.specs.Attempted.{attempt_reduces}
+use Rattle.minimization_round.specs.models.Problem.{problem}
+use Rattle.minimization_round.specs.plan.Plan.{split, drop_zero}
+use Rattle.minimization_round.specs.route_order.Order.{following}
+use Rattle.minimization_round.specs.ejection_pool.Running.{allowance}
+use Rattle.minimization_round.specs.route_cost.Route.{cost}
+use Rattle.minimization_round.proofs.of_local_search.SearchLaws.{Rounding, Trying, rounding_start, round_lent, round_same, trying_start, front_length, front_in, trying_routes, trying_routes_few, back_long, at_end, after_kept_less, after_kept, after_accepted_less, after_accepted}
+use Rattle.minimization_round.specs.pool_cost.Attempt.{attempt}
+use Rattle.minimization_round.specs.minimization.Attempted.{attempt_reduces}
 use Rattle.minimization_round.proofs.NextLaws.{round_cost}
 use Rattle.minimization_search.proofs.SearchLaws.{trying_attempt}
 use Rattle.minimization_search.proofs.search.Statement.{statement}

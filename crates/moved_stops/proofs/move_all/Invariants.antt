@@ -1,5 +1,5 @@
 -- What the loops of `move_all` keep.
-use Rattle.models.specs.Problem.{problem}
+use Rattle.stop_moves.specs.models.Problem.{problem}
 use Rattle.moved_stops.proofs.MovingLaws.{Moving}
 use Rattle.moved_stops.proofs.move_all.Given as goal
 

@@ -1,5 +1,5 @@
 -- `move_next` meets its contract: what the check does not find alone.
-use Rattle.route_load.proofs.FeasibleLaws.{demands_own, stops_own}
+use Rattle.stop_moves.proofs.of_route_load.FeasibleLaws.{demands_own, stops_own}
 use Rattle.moved_stops.proofs.MovingLaws.{next_asked, next_room, next_free, next_moved}
 use Rattle.moved_stops.proofs.move_next.Goals as goal
 

@@ -2,9 +2,9 @@
 use Prim.Native.Nat.{◌-◌}
 use mathlib.Core.List.{[]}
 use lib.ListN.{length}
-use Rattle.laws.specs.Passed.{Passed}
-use Rattle.models.specs.Customer.{customers}
-use Rattle.models.specs.Valid.{place_passes}
+use Rattle.problem_checks.specs.laws.Passed.{Passed}
+use Rattle.problem_checks.specs.models.Customer.{customers}
+use Rattle.problem_checks.specs.models.Valid.{place_passes}
 use Rattle.place_checks.proofs.places_pass.Given as goal
 
 abbrev pub invariant-loop-c : goal.invariant-loop-c

@@ -1,5 +1,5 @@
 -- `window_ordered` meets its contract: what the check does not find alone.
-use Rattle.laws.specs.Picks.{picks}
+use Rattle.problem_checks.specs.laws.Picks.{picks}
 use Rattle.place_checks.proofs.window_ordered.Goals as goal
 
 pub returns-then-flags-c-eq1 : goal.returns-then-flags-c-eq1

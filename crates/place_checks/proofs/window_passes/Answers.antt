@@ -1,5 +1,5 @@
 -- `window_passes` meets its contract: what the check does not find alone.
-use Rattle.laws.specs.Picks.{picks}
+use Rattle.problem_checks.specs.laws.Picks.{picks}
 use Rattle.place_checks.proofs.window_passes.Goals as goal
 
 pub returns-then-is_amount : goal.returns-then-is_amount

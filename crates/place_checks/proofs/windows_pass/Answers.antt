@@ -1,7 +1,7 @@
 -- `windows_pass` meets its contract: what the check does not find alone.
 use Prim.Native.Nat.{◌-◌}
-use Rattle.laws.specs.Passed.{every_laws}
-use Rattle.models.specs.Valid.{window_ordered}
+use Rattle.problem_checks.specs.laws.Passed.{every_laws}
+use Rattle.problem_checks.specs.models.Valid.{window_ordered}
 use Rattle.place_checks.proofs.windows_pass.Goals as goal
 
 pub loop-c-init : goal.loop-c-init

@@ -1,5 +1,5 @@
 -- `window_at` meets its contract: what the check does not find alone.
-use Rattle.laws.specs.Picks.{picks}
+use Rattle.models.specs.laws.Picks.{picks}
 use Rattle.place_record.proofs.window_at.Goals as goal
 
 pub returns-then-f-eq1 : goal.returns-then-f-eq1

@@ -1,8 +1,8 @@
 -- `empty_into` meets its contract.
 use mathlib.Core.List.{[]}
 use mathlib.Core.Path.{◌∙◌}
-use Rattle.models.specs.Problem.{problem}
-use Rattle.ejection_pool.specs.Running.{allowance, state}
+use Rattle.pool_turn.specs.models.Problem.{problem}
+use Rattle.pool_turn.specs.ejection_pool.Running.{allowance, state}
 use Rattle.pool_turns.proofs.LoopLaws.{Looping, looping_done, looping_spent, looping_clocked, looping_running, looping_stuck, looping_more}
 use borrow.Author.Rules.{rules}
 use native.Mathlib.Omega.{arith}

@@ -1,6 +1,6 @@
 -- What the loops of `perturb` keep.
 use Prim.Native.Nat.{◌-◌}
-use Rattle.models.specs.Problem.{problem}
+use Rattle.pair_move.specs.models.Problem.{problem}
 use Rattle.random_moves.proofs.PerturbLaws.{Perturbing}
 use Rattle.random_moves.proofs.perturb.Given as goal
 

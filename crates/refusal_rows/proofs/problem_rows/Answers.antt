@@ -1,5 +1,5 @@
 -- `problem_rows` meets its contract: what the check does not find alone.
-use Rattle.laws.specs.Picks.{via}
+use Rattle.place_checks.specs.laws.Picks.{via}
 use Rattle.refusal_rows.proofs.GroupLaws.{problem_laws, ready_flags, due_flags}
 use Rattle.refusal_rows.proofs.problem_rows.Goals as goal
 

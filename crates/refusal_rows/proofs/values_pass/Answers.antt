@@ -1,6 +1,6 @@
 -- `values_pass` meets its contract: what the check does not find alone.
-use Rattle.laws.specs.Picks.{picks}
-use Rattle.models.specs.Valid.{values_pass}
+use Rattle.place_checks.specs.laws.Picks.{picks}
+use Rattle.place_checks.specs.models.Valid.{values_pass}
 use Rattle.refusal_rows.proofs.GroupLaws.{ready_demand, due_demand, penalty_demand, flags_demand}
 use Rattle.refusal_rows.proofs.values_pass.Goals as goal
 

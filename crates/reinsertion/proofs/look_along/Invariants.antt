@@ -2,7 +2,7 @@
 use Prim.Native.Nat.{suc, ◌-◌}
 use mathlib.Core.List.{[]}
 use lib.ListN.{length}
-use Rattle.models.specs.Problem.{problem}
+use Rattle.reinsertion_candidates.specs.models.Problem.{problem}
 use Rattle.reinsertion.proofs.PlaceLaws.{Looking}
 use Rattle.reinsertion.proofs.look_along.Given as goal
 

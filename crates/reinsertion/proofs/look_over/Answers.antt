@@ -1,7 +1,7 @@
 -- `look_over` meets its contract: what the check does not find alone.
 use Prim.Native.Nat.{◌-◌}
 use borrow.Author.Rules.{rules}
-use Rattle.route_cost.proofs.VisitLaws.{part_end, part_stops}
+use Rattle.reinsertion_candidates.proofs.of_route_cost.VisitLaws.{part_end, part_stops}
 use Rattle.reinsertion.proofs.OverLaws.{seeking_few, seeking_laws}
 use Rattle.reinsertion.proofs.look_over.Goals as goal
 

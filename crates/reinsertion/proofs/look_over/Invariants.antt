@@ -1,7 +1,7 @@
 -- What the loops of `look_over` keep.
 use Prim.Native.Nat.{◌-◌}
 use lib.ListN.{length}
-use Rattle.models.specs.Problem.{problem}
+use Rattle.reinsertion_candidates.specs.models.Problem.{problem}
 use Rattle.reinsertion.proofs.OverLaws.{Seeking}
 use Rattle.reinsertion.proofs.look_over.Given as goal
 

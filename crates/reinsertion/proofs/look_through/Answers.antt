@@ -1,5 +1,5 @@
 -- `look_through` meets its contract: what the check does not find alone.
-use Rattle.route_load.proofs.FeasibleLaws.{demands_own, stops_own, place_own}
+use Rattle.reinsertion_candidates.proofs.of_route_load.FeasibleLaws.{demands_own, stops_own, place_own}
 use Rattle.reinsertion.proofs.PlaceLaws.{through_laws}
 use Rattle.reinsertion.proofs.look_through.Goals as goal
 

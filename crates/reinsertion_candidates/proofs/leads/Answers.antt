@@ -1,5 +1,5 @@
 -- `leads` meets its contract: what the check does not find alone.
-use Rattle.laws.specs.Picks.{picks}
+use Rattle.reinsertion_worth.specs.laws.Picks.{picks}
 use Rattle.reinsertion_candidates.proofs.leads.Goals as goal
 
 pub returns-then-counts : goal.returns-then-counts

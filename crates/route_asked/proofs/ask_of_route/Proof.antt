@@ -1,6 +1,6 @@
 -- `ask_of_route` meets its contract. Assumes nothing.
 use borrow.Author.Rules.{rules}
-use Rattle.laws.specs.Picks.{picks}
+use Rattle.worth_questions.specs.laws.Picks.{picks}
 use Rattle.stored_answers.proofs.AnswerLaws.{asks}
 use Rattle.route_asked.specs.RouteAsked.{route_question}
 use Rattle.route_asked.proofs.ask_of_route.Statement.{statement}

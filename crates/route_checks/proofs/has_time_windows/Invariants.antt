@@ -2,7 +2,7 @@
 use Prim.Native.Nat.{◌-◌}
 use lib.ListN.{length}
 use Rattle.route_checks.proofs.FlagLaws.{Searched}
-use Rattle.models.specs.Customer.{windowed}
+use Rattle.evaluation.specs.models.Customer.{windowed}
 use Rattle.route_checks.proofs.has_time_windows.Given as goal
 
 abbrev pub invariant-loop-i : goal.invariant-loop-i

@@ -1,5 +1,5 @@
 -- `is_soft` meets its contract: what the check does not find alone.
-use Rattle.laws.specs.Picks.{picks}
+use Rattle.evaluation.specs.laws.Picks.{picks}
 use Rattle.route_checks.proofs.is_soft.Goals as goal
 
 pub returns-then-flag-eq1 : goal.returns-then-flag-eq1

@@ -1,5 +1,5 @@
 -- `route_checks_needed` meets its contract: what the check does not find alone.
-use Rattle.laws.specs.Picks.{picks}
+use Rattle.evaluation.specs.laws.Picks.{picks}
 use Rattle.route_checks.proofs.route_checks_needed.Goals as goal
 
 pub returns-then-has_time_windows : goal.returns-then-has_time_windows

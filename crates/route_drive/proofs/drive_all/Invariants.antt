@@ -2,8 +2,8 @@
 use Prim.Native.Nat.{◌-◌}
 use lib.ListN.{length}
 use Rattle.route_drive.proofs.DriveLaws.{Driving}
-use Rattle.models.specs.Customer.{customers}
-use Rattle.models.specs.Problem.{matrix}
+use Rattle.trial_route.specs.models.Customer.{customers}
+use Rattle.trial_route.specs.models.Problem.{matrix}
 use Rattle.route_drive.proofs.drive_all.Given as goal
 
 abbrev pub invariant-loop-i : goal.invariant-loop-i

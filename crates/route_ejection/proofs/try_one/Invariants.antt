@@ -1,8 +1,8 @@
 -- What the loops of `try_one` keep.
 use Prim.Native.Nat.{◌-◌}
 use lib.ListN.{length}
-use Rattle.models.specs.Problem.{problem}
-use Rattle.ejection.specs.Eject.{try_out}
+use Rattle.ejection_positions.specs.models.Problem.{problem}
+use Rattle.ejection_positions.specs.ejection.Eject.{try_out}
 use Rattle.route_ejection.proofs.LeaveLaws.{Seeking}
 use Rattle.route_ejection.proofs.try_one.Given as goal
 

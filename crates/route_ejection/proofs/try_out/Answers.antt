@@ -1,5 +1,5 @@
 -- `try_out` meets its contract: what the check does not find alone.
-use Rattle.ejection.specs.Asked.{kept_stops}
+use Rattle.ejection_positions.specs.ejection.Asked.{kept_stops}
 use Rattle.route_ejection.proofs.LeaveLaws.{counted_own, stops_own, kept_part, out_more, out_tried}
 use Rattle.route_ejection.proofs.try_out.Goals as goal
 

@@ -1,6 +1,6 @@
 -- `try_two_from` meets its contract: what the check does not find alone.
 use Prim.Native.Nat.{◌-◌}
-use Rattle.ejection.specs.Eject.{try_out}
+use Rattle.ejection_positions.specs.ejection.Eject.{try_out}
 use Rattle.route_ejection.proofs.LeaveLaws.{seeking_start, seeking_more, seeking_end, two_from_is}
 use borrow.Author.Rules.{rules}
 use native.Mathlib.Omega.{arith}

@@ -3,13 +3,13 @@ use mathlib.Core.Path.{◌≡◌, refl, sym, ap, ◌∙◌}
 use native.Mathlib.Omega.{arith}
 use borrow.Author.Rules.{rules}
 use lib.ListN.{length, take}
-use Rattle.models.specs.Problem.{problem}
-use Rattle.plan.specs.Plan.{drop_zero}
-use Rattle.route_order.specs.Order.{following}
-use Rattle.local_search.specs.Search.{uncounted}
-use Rattle.local_search.proofs.SearchLaws.{Rounding, Trying, rounding_start, round_same, trying_start, front_length, front_in, back_long, at_end, after_kept_less, after_accepted_less}
-use Rattle.elimination_moves.specs.Eliminate.{attempt}
-use Rattle.elimination_moves.specs.Eliminated.{attempt_reduces}
+use Rattle.elimination_round.specs.models.Problem.{problem}
+use Rattle.elimination_round.specs.plan.Plan.{drop_zero}
+use Rattle.elimination_round.specs.route_order.Order.{following}
+use Rattle.elimination_round.specs.local_search.Search.{uncounted}
+use Rattle.elimination_round.proofs.of_local_search.SearchLaws.{Rounding, Trying, rounding_start, round_same, trying_start, front_length, front_in, back_long, at_end, after_kept_less, after_accepted_less}
+use Rattle.elimination_round.specs.elimination_moves.Eliminate.{attempt}
+use Rattle.elimination_round.specs.elimination_moves.Eliminated.{attempt_reduces}
 use Rattle.route_elimination.proofs.EliminateLaws.{trying_eliminating, after_refused, after_gone, rounds_answer}
 use Rattle.route_elimination.proofs.eliminate_routes.Statement.{statement}
 use Rattle.route_elimination.proofs.eliminate_routes.Tie as tie

@@ -1,7 +1,7 @@
 -- `exchange_in_order` meets its contract: what the check does not find alone.
 use lib.Seq.{lt-length-set}
 use borrow.Author.Rules.{rules}
-use Rattle.plan.specs.Slices.{position_route}
+use Rattle.exchanged_stops.specs.plan.Slices.{position_route}
 use Rattle.route_exchange.proofs.ExchangeLaws.{exchange_tails_done, first_in_order, second_in_order, tails_in_order, tails_kept, tails_laws, tails_there}
 use Rattle.route_exchange.proofs.exchange_in_order.Goals as goal
 

@@ -2,9 +2,9 @@
 use Prim.Native.Nat.{suc, ◌-◌}
 use mathlib.Core.List.{[]}
 use lib.ListN.{length}
-use Rattle.models.specs.Problem.{problem}
-use Rattle.route_cost.specs.Route.{chosen}
-use Rattle.route_times.specs.Prepared.{held}
+use Rattle.insertion.specs.models.Problem.{problem}
+use Rattle.insertion.specs.route_cost.Route.{chosen}
+use Rattle.insertion.specs.route_times.Prepared.{held}
 use Rattle.insertion.specs.Pass.{pass_position}
 use Rattle.insertion.proofs.AlongLaws.{Along}
 use Rattle.route_insertion.proofs.try_positions.Given as goal

@@ -1,6 +1,6 @@
 -- `try_route` meets its contract: what the check does not find alone.
 use native.Mathlib.Omega.{arith}
-use Rattle.route_load.proofs.FeasibleLaws.{demands_own, stops_own, place_own}
+use Rattle.insertion.proofs.of_route_load.FeasibleLaws.{demands_own, stops_own, place_own}
 use Rattle.route_insertion.proofs.RouteLaws.{route_laws}
 use Rattle.route_insertion.proofs.try_route.Goals as goal
 

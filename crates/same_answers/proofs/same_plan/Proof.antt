@@ -1,6 +1,6 @@
 -- `same_plan` meets its contract. Assumes nothing.
 use borrow.Author.Rules.{rules}
-use Rattle.laws.specs.Picks.{picks}
+use Rattle.stored_answers.specs.laws.Picks.{picks}
 use Rattle.same_answers.proofs.same_plan.Statement.{statement}
 use Rattle.same_answers.proofs.same_plan.Tie as tie
 

@@ -1,5 +1,5 @@
 -- `same_rest` meets its contract. Assumes nothing.
-use Rattle.laws.specs.Picks.{picks}
+use Rattle.stored_answers.specs.laws.Picks.{picks}
 use Rattle.same_answers.proofs.same_rest.Statement.{statement}
 use Rattle.same_answers.proofs.same_rest.Tie as tie
 

@@ -1,5 +1,5 @@
 -- `stop_cell` meets its contract: what the check does not find alone.
-use Rattle.laws.specs.Picks.{picks}
+use Rattle.sheet_format.specs.laws.Picks.{picks}
 use Rattle.sheet_cells.proofs.stop_cell.Goals as goal
 
 pub returns-then-c-le65535 : goal.returns-then-c-le65535

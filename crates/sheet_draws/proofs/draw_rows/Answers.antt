@@ -4,7 +4,7 @@ use mathlib.Core.Path.{refl}
 use native.Mathlib.Omega.{arith}
 use borrow.Author.Rules.{rules}
 use Rattle.sheet_reader.proofs.FillLaws.{none_yet, row_end, row_fault, row_turn}
-use Rattle.sheet_text.proofs.ReadLaws.{number_at, number_bad}
+use Rattle.sheet_reader.proofs.of_sheet_text.ReadLaws.{number_at, number_bad}
 use Rattle.sheet_draws.proofs.draw_rows.Goals as goal
 
 pub loop-left-init : goal.loop-left-init

@@ -3,7 +3,7 @@ use Prim.Native.Nat.{ℕ, ◌+◌}
 use mathlib.Core.Path.{◌≡◌}
 use lib.ListN.{length}
 use Rattle.sheet_reader.specs.Cells.{front}
-use Rattle.sheet_text.specs.Text.{map_reading, before, lf, number, repeat}
+use Rattle.sheet_reader.specs.sheet_text.Text.{map_reading, before, lf, number, repeat}
 use Rattle.sheet_draws.proofs.draw_rows.Given as goal
 
 abbrev pub invariant-loop-left : goal.invariant-loop-left

@@ -1,8 +1,8 @@
 -- `draws` meets its contract: what the check does not find alone.
 use native.Mathlib.Omega.{arith}
-use Rattle.sheet_format.specs.Form.{draws}
+use Rattle.sheet_reader.specs.sheet_format.Form.{draws}
 use Rattle.sheet_reader.proofs.SectionLaws.{sections, count_within}
-use Rattle.sheet_text.proofs.ReadLaws.{readings}
+use Rattle.sheet_reader.proofs.of_sheet_text.ReadLaws.{readings}
 use Rattle.sheet_draws.proofs.draws.Goals as goal
 
 pub draw_rows-requires : goal.draw_rows-requires

@@ -2,11 +2,11 @@
 use mathlib.Core.Path.{subst}
 use native.Mathlib.Omega.{arith}
 use Rattle.sheet_problem.proofs.ProblemLaws.{square_fits, no_vehicle, no_places, no_roads, no_break, problem_got}
-use Rattle.sheet_reader.specs.Cells.{AtMost, filled_places}
+use Rattle.sheet_roads.specs.sheet_reader.Cells.{AtMost, filled_places}
 use Rattle.sheet_roads.specs.Roads.{filled_roads}
 use Rattle.sheet_vehicle.specs.Told.{told_vehicle}
 use Rattle.sheet_rest.specs.Told.{told_rest}
-use Rattle.sheet_text.proofs.ReadLaws.{told}
+use Rattle.sheet_vehicle.proofs.of_sheet_text.ReadLaws.{told}
 use Rattle.sheet_problem.proofs.problem.Goals as goal
 
 pub roads-m-requires : goal.roads-m-requires

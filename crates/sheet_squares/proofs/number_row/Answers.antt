@@ -4,7 +4,7 @@ use mathlib.Core.Path.{refl}
 use native.Mathlib.Omega.{arith}
 use borrow.Author.Rules.{rules}
 use Rattle.sheet_reader.proofs.FillLaws.{ended, not_ended, row_end, row_fault, row_turn}
-use Rattle.floats.specs.Whole.{nat}
+use Rattle.sheet_reader.specs.floats.Whole.{nat}
 use Rattle.sheet_squares.proofs.number_row.Goals as goal
 
 pub returns-in_default : goal.returns-in_default

@@ -4,7 +4,7 @@ use native.Mathlib.Omega.{arith}
 use borrow.Author.Rules.{rules}
 use Rattle.sheet_reader.proofs.SectionLaws.{filled_at, filled_bad}
 use Rattle.sheet_squares.proofs.SquareLaws.{rows_start, row_room, rows_end, rows_fault, rows_turn}
-use Rattle.sheet_text.specs.Text.{repeat, line}
+use Rattle.sheet_reader.specs.sheet_text.Text.{repeat, line}
 use Rattle.sheet_squares.proofs.square.Goals as goal
 
 pub loop-left-init : goal.loop-left-init

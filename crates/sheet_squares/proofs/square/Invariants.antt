@@ -3,8 +3,8 @@ use Prim.Native.Nat.{◌+◌, ◌*◌}
 use mathlib.Core.Path.{◌≡◌}
 use lib.ListN.{length}
 use Rattle.sheet_squares.proofs.SquareLaws.{rows_behind}
-use Rattle.sheet_format.specs.Form.{row_by_row}
-use Rattle.sheet_text.specs.Text.{map_reading, repeat, line}
+use Rattle.sheet_reader.specs.sheet_format.Form.{row_by_row}
+use Rattle.sheet_reader.specs.sheet_text.Text.{map_reading, repeat, line}
 use Rattle.sheet_squares.proofs.square.Given as goal
 
 abbrev pub invariant-loop-left : goal.invariant-loop-left

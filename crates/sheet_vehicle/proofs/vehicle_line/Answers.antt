@@ -1,7 +1,7 @@
 -- `vehicle_line` meets its contract: what the check does not find alone.
 use borrow.Author.Tests.{eq-eqb, ne_eqb}
 use Rattle.sheet_vehicle.proofs.VehicleLaws.{same_vehicle, limit_bad, on_limit}
-use Rattle.sheet_text.proofs.ReadLaws.{next_refused, check_false, number_bad, signed_bad, on_signed, on_number, on_check}
+use Rattle.sheet_format.proofs.of_sheet_text.ReadLaws.{next_refused, check_false, number_bad, signed_bad, on_signed, on_number, on_check}
 use Rattle.sheet_format.specs.Form.{vehicle_line}
 use Rattle.sheet_vehicle.proofs.vehicle_line.Goals as goal
 

@@ -1,8 +1,8 @@
 -- `stops_pass` meets its contract: what the check does not find alone.
 use Prim.Native.Nat.{◌-◌}
-use Rattle.break_clock.proofs.StopLaws.{part_laws}
-use Rattle.laws.specs.Passed.{every_laws}
-use Rattle.entry.specs.Table.{stop_passes, stops_pass}
+use Rattle.length_checks.proofs.of_break_clock.StopLaws.{part_laws}
+use Rattle.length_checks.specs.laws.Passed.{every_laws}
+use Rattle.length_checks.specs.entry.Table.{stop_passes, stops_pass}
 use Rattle.stop_checks.proofs.MarkLaws.{marks_start, marks_more}
 use Rattle.stop_checks.proofs.stops_pass.Goals as goal
 

@@ -2,10 +2,10 @@
 use Prim.Native.Nat.{◌-◌}
 use mathlib.Core.List.{[]}
 use lib.ListN.{length, get_or, take}
-use Rattle.laws.specs.Passed.{Passed}
-use Rattle.models.specs.Problem.{of_distances}
-use Rattle.entry.specs.Marks.{Marks}
-use Rattle.entry.specs.Table.{stop_passes}
+use Rattle.length_checks.specs.laws.Passed.{Passed}
+use Rattle.length_checks.specs.models.Problem.{of_distances}
+use Rattle.length_checks.specs.entry.Marks.{Marks}
+use Rattle.length_checks.specs.entry.Table.{stop_passes}
 use Rattle.stop_checks.proofs.stops_pass.Given as goal
 
 abbrev pub invariant-loop-i : goal.invariant-loop-i

@@ -1,5 +1,5 @@
 -- `try_exchange` meets its contract: what the check does not find alone.
-use Rattle.plan.specs.Slices.{stop_route}
+use Rattle.exchanged_stops.specs.plan.Slices.{stop_route}
 use Rattle.stop_exchange.proofs.ExchangeLaws.{exchanged_lent, exchanged_planned, exchanged_first, exchanged_second, exchange_stays, exchange_undone}
 use Rattle.stop_exchange.proofs.try_exchange.Goals as goal
 

@@ -1,7 +1,7 @@
 -- `both_joined` meets its contract: what the check does not find alone.
 use native.Mathlib.Omega.{arith}
 use mathlib.Core.Path.{sym}
-use Rattle.route_load.proofs.FeasibleLaws.{demands_own}
+use Rattle.joined_tails.proofs.of_route_load.FeasibleLaws.{demands_own}
 use Rattle.tail_exchange.proofs.TailLaws.{joined_heavy, joined_falls, joined_decides}
 use Rattle.tail_exchange.proofs.both_joined.Goals as goal
 

@@ -1,8 +1,8 @@
 -- What the loops of `departures` keep.
 use Prim.Native.Nat.{◌-◌}
 use lib.ListN.{length}
-use Rattle.models.specs.Customer.{customers}
-use Rattle.models.specs.Problem.{matrix}
+use Rattle.latest_times.specs.models.Customer.{customers}
+use Rattle.latest_times.specs.models.Problem.{matrix}
 use Rattle.walked_times.proofs.DepartureLaws.{Leaving}
 use Rattle.walked_times.proofs.departures.Given as goal
 

@@ -1,7 +1,7 @@
 -- What the loops of `latest_arrivals` keep.
 use Prim.Native.Nat.{◌-◌}
-use Rattle.models.specs.Customer.{customers}
-use Rattle.models.specs.Problem.{matrix}
+use Rattle.latest_times.specs.models.Customer.{customers}
+use Rattle.latest_times.specs.models.Problem.{matrix}
 use Rattle.walked_times.proofs.LatestLaws.{Backing}
 use Rattle.walked_times.proofs.latest_arrivals.Given as goal
 

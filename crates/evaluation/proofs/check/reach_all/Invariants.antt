@@ -2,8 +2,8 @@
 use Prim.Native.Nat.{◌-◌}
 use lib.ListN.{length}
 use Rattle.evaluation.proofs.CheckLaws.{Reaching}
-use Rattle.models.specs.Customer.{customers}
-use Rattle.models.specs.Problem.{matrix}
+use Rattle.break_schedule.specs.models.Customer.{customers}
+use Rattle.break_schedule.specs.models.Problem.{matrix}
 use Rattle.evaluation.proofs.check.reach_all.Given as goal
 
 abbrev pub invariant-loop-i : goal.invariant-loop-i

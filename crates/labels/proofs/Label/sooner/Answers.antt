@@ -1,5 +1,5 @@
 -- `Label::sooner` meets its contract: what the check does not find alone.
-use Rattle.laws.specs.Picks.{picks}
+use Rattle.distance.specs.laws.Picks.{picks}
 use Rattle.labels.proofs.Label.sooner.Goals as goal
 
 pub returns-then-y-x : goal.returns-then-y-x

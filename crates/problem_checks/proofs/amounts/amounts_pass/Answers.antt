@@ -1,6 +1,6 @@
 -- `amounts::amounts_pass` meets its contract: what the check does not find alone.
 use Prim.Native.Nat.{◌-◌}
-use Rattle.laws.specs.Passed.{every_laws}
+use Rattle.models.specs.laws.Passed.{every_laws}
 use Rattle.models.specs.Valid.{is_amount}
 use Rattle.problem_checks.proofs.amounts.amounts_pass.Goals as goal
 

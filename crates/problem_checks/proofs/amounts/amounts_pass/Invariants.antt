@@ -2,7 +2,7 @@
 use Prim.Native.Nat.{◌-◌}
 use lib.ListN.{length, get_or}
 use lib.Ieee.{nan}
-use Rattle.laws.specs.Passed.{Passed}
+use Rattle.models.specs.laws.Passed.{Passed}
 use Rattle.models.specs.Valid.{is_amount}
 use Rattle.problem_checks.proofs.amounts.amounts_pass.Given as goal
 

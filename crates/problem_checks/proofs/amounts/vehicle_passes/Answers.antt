@@ -1,5 +1,5 @@
 -- `amounts::vehicle_passes` meets its contract: what the check does not find alone.
-use Rattle.laws.specs.Picks.{picks}
+use Rattle.models.specs.laws.Picks.{picks}
 use Rattle.problem_checks.proofs.amounts.vehicle_passes.Goals as goal
 
 pub returns-then-limit_passes-2 : goal.returns-then-limit_passes-2

@@ -1,5 +1,5 @@
 -- `sizes::cells_pass` meets its contract: what the check does not find alone.
-use Rattle.laws.specs.Picks.{picks}
+use Rattle.models.specs.laws.Picks.{picks}
 use Rattle.problem_checks.proofs.sizes.cells_pass.Goals as goal
 
 pub returns-then-penalty-n : goal.returns-then-penalty-n

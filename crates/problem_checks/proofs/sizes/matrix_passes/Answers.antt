@@ -1,5 +1,5 @@
 -- `sizes::matrix_passes` meets its contract: what the check does not find alone.
-use Rattle.laws.specs.Picks.{picks}
+use Rattle.models.specs.laws.Picks.{picks}
 use Rattle.problem_checks.proofs.SizeLaws.{size_laws}
 use Rattle.problem_checks.proofs.sizes.matrix_passes.Goals as goal
 

@@ -1,5 +1,5 @@
 -- `sizes::sizes_pass` meets its contract: what the check does not find alone.
-use Rattle.laws.specs.Picks.{picks}
+use Rattle.models.specs.laws.Picks.{picks}
 use Rattle.problem_checks.proofs.SizeLaws.{size_laws}
 use Rattle.models.specs.Valid.{sizes_pass}
 use Rattle.problem_checks.proofs.sizes.sizes_pass.Goals as goal

@@ -1,7 +1,7 @@
 -- `places::place_line` meets its contract: what the check does not find alone.
 use borrow.Author.Rules.{rules}
 use Rattle.sheet_format.proofs.LineLaws.{same_place, window_bad, penalty_bad, on_window, on_penalty}
-use Rattle.sheet_text.proofs.ReadLaws.{next_refused, number_bad, signed_bad, on_signed, on_number}
+use Rattle.sheet_fields.proofs.of_sheet_text.ReadLaws.{next_refused, number_bad, signed_bad, on_signed, on_number}
 use Rattle.sheet_format.specs.Form.{place}
 use Rattle.sheet_format.proofs.places.place_line.Goals as goal
 

@@ -6,8 +6,8 @@ use borrow.Author.Rules.{rules}
 use Rattle.sheet_reader.proofs.PlaceLaws.{room_now, sizes_same, places_start, places_end, places_fault, places_turn}
 use Rattle.sheet_reader.specs.Cells.{columns_of}
 use Rattle.sheet_reader.proofs.SectionLaws.{filled_at, filled_bad}
-use Rattle.sheet_format.specs.Form.{place}
-use Rattle.sheet_text.specs.Text.{repeat}
+use Rattle.sheet_cells.specs.sheet_format.Form.{place}
+use Rattle.sheet_cells.specs.sheet_text.Text.{repeat}
 use Rattle.sheet_reader.proofs.places.place_rows.Goals as goal
 
 pub loop-left-init : goal.loop-left-init

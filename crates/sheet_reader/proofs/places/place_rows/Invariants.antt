@@ -3,8 +3,8 @@ use Prim.Native.Nat.{◌+◌}
 use mathlib.Core.Path.{◌≡◌}
 use Rattle.sheet_reader.proofs.PlaceLaws.{behind}
 use Rattle.sheet_reader.specs.Cells.{Sizes, columns_of, columns}
-use Rattle.sheet_format.specs.Form.{place}
-use Rattle.sheet_text.specs.Text.{map_reading, repeat}
+use Rattle.sheet_cells.specs.sheet_format.Form.{place}
+use Rattle.sheet_cells.specs.sheet_text.Text.{map_reading, repeat}
 use Rattle.sheet_reader.proofs.places.place_rows.Given as goal
 
 abbrev pub invariant-loop-left : goal.invariant-loop-left

@@ -1,9 +1,9 @@
 -- `places::places` meets its contract: what the check does not find alone.
 use Rattle.sheet_reader.proofs.SectionLaws.{count_within, map_refused, map_count, filled_at, filled_bad}
 use Rattle.sheet_reader.proofs.PlaceLaws.{room_now, sizes_same}
-use Rattle.sheet_text.proofs.ReadLaws.{next_refused, count_refused}
+use Rattle.sheet_cells.proofs.of_sheet_text.ReadLaws.{next_refused, count_refused}
 use Rattle.sheet_reader.specs.Cells.{columns}
-use Rattle.sheet_format.specs.Form.{places}
+use Rattle.sheet_cells.specs.sheet_format.Form.{places}
 use Rattle.sheet_reader.proofs.places.places.Goals as goal
 
 pub place_rows-requires : goal.place_rows-requires

@@ -1,7 +1,7 @@
 -- `routes::route_row` meets its contract: what the check does not find alone.
 use Rattle.sheet_routes.proofs.RouteLaws.{gap_at, gap_bad, no_length, too_many, no_gap, no_stops, route_got}
 use Rattle.sheet_reader.proofs.SectionLaws.{filled_at, filled_bad}
-use Rattle.sheet_text.proofs.ReadLaws.{number_at, number_bad}
+use Rattle.sheet_reader.proofs.of_sheet_text.ReadLaws.{number_at, number_bad}
 use Rattle.sheet_routes.proofs.routes.route_row.Goals as goal
 
 pub returns-in_default : goal.returns-in_default

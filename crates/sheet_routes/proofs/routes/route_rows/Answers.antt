@@ -5,7 +5,7 @@ use native.Mathlib.Omega.{arith}
 use lib.ListN.{length, length-set}
 use borrow.Author.Rules.{rules}
 use Rattle.sheet_routes.proofs.RouteLaws.{route_at, route_refused, routes_start, route_few, routes_end, routes_fault, routes-turn}
-use Rattle.sheet_format.specs.Form.{route_lines}
+use Rattle.sheet_reader.specs.sheet_format.Form.{route_lines}
 use Rattle.sheet_routes.proofs.routes.route_rows.Goals as goal
 
 pub loop-left-init : goal.loop-left-init

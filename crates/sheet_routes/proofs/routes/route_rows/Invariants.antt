@@ -3,8 +3,8 @@ use Prim.Native.Nat.{◌+◌, ◌-◌, ◌≤◌}
 use mathlib.Core.Path.{◌≡◌}
 use lib.ListN.{length}
 use Rattle.sheet_routes.proofs.RouteLaws.{plan_behind}
-use Rattle.sheet_format.specs.Form.{route_lines, slices_of}
-use Rattle.sheet_text.specs.Text.{map_reading}
+use Rattle.sheet_reader.specs.sheet_format.Form.{route_lines, slices_of}
+use Rattle.sheet_reader.specs.sheet_text.Text.{map_reading}
 use Rattle.sheet_routes.proofs.routes.route_rows.Given as goal
 
 abbrev pub invariant-loop-left : goal.invariant-loop-left

@@ -3,7 +3,7 @@ use Prim.Native.Nat.{◌-◌}
 use native.Mathlib.Omega.{arith}
 use borrow.Author.Rules.{rules}
 use Rattle.sheet_reader.proofs.FillLaws.{ended, not_ended, row_end, row_fault, row_turn}
-use Rattle.sheet_format.specs.Form.{stop_cell}
+use Rattle.sheet_reader.specs.sheet_format.Form.{stop_cell}
 use Rattle.sheet_routes.proofs.routes.stop_row.Goals as goal
 
 pub returns-in_default : goal.returns-in_default

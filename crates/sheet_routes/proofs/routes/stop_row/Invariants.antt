@@ -3,8 +3,8 @@ use Prim.Native.Nat.{◌-◌, ◌+◌}
 use mathlib.Core.Path.{◌≡◌}
 use lib.ListN.{length}
 use Rattle.sheet_reader.specs.Cells.{front}
-use Rattle.sheet_format.specs.Form.{stop_cell}
-use Rattle.sheet_text.specs.Text.{map_reading, line}
+use Rattle.sheet_reader.specs.sheet_format.Form.{stop_cell}
+use Rattle.sheet_reader.specs.sheet_text.Text.{map_reading, line}
 use Rattle.sheet_routes.proofs.routes.stop_row.Given as goal
 
 abbrev pub invariant-loop-left : goal.invariant-loop-left

@@ -1,11 +1,11 @@
 -- `request::request` meets its contract: what the check does not find alone.
 use mathlib.Core.Path.{subst}
 use Rattle.sheet_whole.proofs.RequestLaws.{no_draws, no_routes, no_run, request_got}
-use Rattle.sheet_reader.specs.Cells.{AtMost}
+use Rattle.sheet_draws.specs.sheet_reader.Cells.{AtMost}
 use Rattle.sheet_draws.specs.Draws.{filled_count}
 use Rattle.sheet_routes.specs.Routes.{PlanWithin, filled_plan}
 use Rattle.sheet_run.specs.Run.{told_run}
-use Rattle.sheet_text.proofs.ReadLaws.{told}
+use Rattle.sheet_draws.proofs.of_sheet_text.ReadLaws.{told}
 use Rattle.sheet_whole.proofs.request.request.Goals as goal
 
 pub returns-in-Refused : goal.returns-in-Refused

@@ -3,8 +3,8 @@ use mathlib.Core.Path.{subst, sym}
 use Rattle.sheet_whole.proofs.SheetLaws.{no_problem, no_request, sheet_got}
 use Rattle.sheet_whole.specs.Request.{told_request, RequestWithin}
 use Rattle.sheet_problem.specs.Told.{told_problem, ProblemWithin}
-use Rattle.sheet_format.specs.Faults.{too_long}
-use Rattle.sheet_text.proofs.ReadLaws.{told}
+use Rattle.sheet_draws.specs.sheet_format.Faults.{too_long}
+use Rattle.sheet_draws.proofs.of_sheet_text.ReadLaws.{told}
 use Rattle.sheet_whole.proofs.sheet.sheet.Goals as goal
 
 pub returns-then-s-gt60000 : goal.returns-then-s-gt60000

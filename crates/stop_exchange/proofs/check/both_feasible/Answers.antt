@@ -1,5 +1,5 @@
 -- `check::both_feasible` meets its contract: what the check does not find alone.
-use Rattle.route_load.proofs.FeasibleLaws.{demands_own}
+use Rattle.perturbation.proofs.of_route_load.FeasibleLaws.{demands_own}
 use Rattle.stop_exchange.proofs.ExchangeLaws.{stands_laws}
 use Rattle.stop_exchange.proofs.check.both_feasible.Goals as goal
 

@@ -1,6 +1,6 @@
 -- `check::within_at` meets its contract: what the check does not find alone.
 use borrow.Author.Rules.{rules}
-use Rattle.models.specs.Problem.{of_demand}
+use Rattle.perturbation.specs.models.Problem.{of_demand}
 use Rattle.stop_exchange.proofs.ExchangeLaws.{route_end, route_within, route_laws}
 use Rattle.stop_exchange.proofs.check.within_at.Goals as goal
 

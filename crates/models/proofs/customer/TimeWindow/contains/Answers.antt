@@ -1,5 +1,5 @@
 -- `customer::TimeWindow::contains` meets its contract: what the check does not find alone.
-use Rattle.laws.specs.Picks.{picks}
+use Rattle.float_functions.specs.laws.Picks.{picks}
 use Rattle.models.proofs.customer.TimeWindow.contains.Goals as goal
 
 pub returns-then-time-self : goal.returns-then-time-self

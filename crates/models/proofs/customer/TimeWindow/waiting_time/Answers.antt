@@ -1,5 +1,5 @@
 -- `customer::TimeWindow::waiting_time` meets its contract: what the check does not find alone.
-use Rattle.laws.specs.Picks.{picks}
+use Rattle.float_functions.specs.laws.Picks.{picks}
 use Rattle.models.proofs.customer.TimeWindow.waiting_time.Goals as goal
 
 pub returns-then-arrival-self : goal.returns-then-arrival-self

@@ -1,5 +1,5 @@
 -- `limits::RouteLimits::allow` meets its contract: what the check does not find alone.
-use Rattle.laws.specs.Picks.{picks}
+use Rattle.float_functions.specs.laws.Picks.{picks}
 use Rattle.models.proofs.limits.RouteLimits.allow.Goals as goal
 
 pub returns-then-within : goal.returns-then-within

@@ -1,0 +1,3 @@
+-- What the proofs of this crate cite.
+-- crates below, passed on to those above
+pub use Rattle.c_values.proofs as of_c_values

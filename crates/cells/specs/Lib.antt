@@ -1,0 +1,3 @@
+-- What the contracts of this crate cite.
+-- crates below, passed on to those above
+pub use Rattle.laws.specs as laws

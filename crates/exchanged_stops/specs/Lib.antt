@@ -1,0 +1,4 @@
+-- What the contracts of this crate cite.
+-- crates below, passed on to those above
+pub use Rattle.plan.specs.laws as laws
+pub use Rattle.plan.specs as plan

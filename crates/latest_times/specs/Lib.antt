@@ -1,0 +1,12 @@
+-- What the contracts of this crate cite.
+-- crates below, passed on to those above
+pub use Rattle.quick_fit.specs.laws as laws
+pub use Rattle.quick_fit.specs.floats as floats
+pub use Rattle.quick_fit.specs.models as models
+pub use Rattle.quick_fit.specs.evaluation as evaluation
+pub use Rattle.quick_fit.specs.plan as plan
+pub use Rattle.quick_fit.specs.route_order as route_order
+pub use Rattle.quick_fit.specs.route_cost as route_cost
+pub use Rattle.quick_fit.specs.route_load as route_load
+pub use Rattle.quick_fit.specs.local_search as local_search
+pub use Rattle.quick_fit.specs.quick_test as quick_test

@@ -1,0 +1,8 @@
+-- What the contracts of this crate cite.
+-- crates below, passed on to those above
+pub use Rattle.listing_numbers.specs.laws as laws
+pub use Rattle.listing_numbers.specs.models as models
+pub use Rattle.listing_numbers.specs.plan as plan
+pub use Rattle.listing_numbers.specs.route_cost as route_cost
+pub use Rattle.listing_numbers.specs.route_load as route_load
+pub use Rattle.listing_numbers.specs.listing as listing

@@ -1,0 +1,7 @@
+-- What the contracts of this crate cite.
+-- crates below, passed on to those above
+pub use Rattle.listing_numbers.specs.laws as laws
+pub use Rattle.listing_numbers.specs.models as models
+pub use Rattle.listing_numbers.specs.plan as plan
+pub use Rattle.listing_numbers.specs.local_search as local_search
+pub use Rattle.listing_numbers.specs.listing as listing

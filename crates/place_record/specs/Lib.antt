@@ -1,0 +1,5 @@
+-- What the contracts of this crate cite.
+-- crates below, passed on to those above
+pub use Rattle.models.specs.laws as laws
+pub use Rattle.models.specs.floats as floats
+pub use Rattle.models.specs as models

@@ -1,0 +1,11 @@
+-- What the contracts of this crate cite.
+-- crates below, passed on to those above
+pub use Rattle.place_checks.specs.laws as laws
+pub use Rattle.place_checks.specs.models as models
+pub use Rattle.stop_checks.specs.labels as labels
+pub use Rattle.stop_checks.specs.break_clock as break_clock
+pub use Rattle.stop_checks.specs.evaluation as evaluation
+pub use Rattle.stop_checks.specs.plan as plan
+pub use Rattle.stop_checks.specs.route_cost as route_cost
+pub use Rattle.stop_checks.specs.local_search as local_search
+pub use Rattle.stop_checks.specs.entry as entry

@@ -1,0 +1,5 @@
+-- What the contracts of this crate cite.
+-- crates below, passed on to those above
+pub use Rattle.sheet_elimination.specs.listing as listing
+pub use Rattle.sheet_elimination.specs.sheet_laws as sheet_laws
+pub use Rattle.sheet_elimination.specs.sheet_answers as sheet_answers

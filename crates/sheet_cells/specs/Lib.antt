@@ -1,0 +1,8 @@
+-- What the contracts of this crate cite.
+-- crates below, passed on to those above
+pub use Rattle.sheet_format.specs.floats as floats
+pub use Rattle.sheet_format.specs.models as models
+pub use Rattle.sheet_format.specs.plan as plan
+pub use Rattle.sheet_format.specs.sheet_text as sheet_text
+pub use Rattle.sheet_format.specs.sheet_headings as sheet_headings
+pub use Rattle.sheet_format.specs as sheet_format

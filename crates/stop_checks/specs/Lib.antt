@@ -1,0 +1,9 @@
+-- What the contracts of this crate cite.
+-- crates below, passed on to those above
+pub use Rattle.length_checks.specs.labels as labels
+pub use Rattle.length_checks.specs.break_clock as break_clock
+pub use Rattle.length_checks.specs.evaluation as evaluation
+pub use Rattle.length_checks.specs.plan as plan
+pub use Rattle.length_checks.specs.route_cost as route_cost
+pub use Rattle.length_checks.specs.local_search as local_search
+pub use Rattle.length_checks.specs.entry as entry
