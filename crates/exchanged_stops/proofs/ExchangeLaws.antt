@@ -5,7 +5,7 @@ use mathlib.Core.List.{List}
 use Rattle.plan.specs.laws.Exchanges.{swap}
 use Rattle.plan.specs.Plan.{Lent, HasStop, split, offset, exchange_stops}
 use Rattle.plan.specs.Slices.{stop_within, stop_route}
-use Rattle.plan.specs.Exchanges.{exchange_stops_slices}
+use Rattle.plan.proofs.Exchanges.{exchange_stops_slices}
 
 pub exchange_stops_done : (ls s : List ℕ) (a i b j p q : ℕ) {s₁ : List ℕ} → Lent ls s → p ≡ offset ls a → q ≡ offset ls b → (a ≡ b → ⊥)
     → HasStop (split ls s) a i → HasStop (split ls s) b j → s₁ ≡ swap (p + i) (q + j) s → split ls s₁ ≡ exchange_stops a i b j (split ls s)

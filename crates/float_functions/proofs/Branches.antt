@@ -19,7 +19,7 @@ use Rattle.floats.specs.Exact.{zero_exp}
 use Rattle.floats.specs.Sign.{fits_sign, signs_le, clear_not_below}
 use Rattle.floats.specs.Plain.{add_zero_left}
 use Rattle.floats.specs.Functions.{nan_tested}
-use Rattle.floats.specs.Bits.{total_less_keys}
+use Rattle.floats.proofs.Bits.{total_less_keys}
 
 sign_set : (m : ℕ) (e : ℤ) → le (fin true m e) 0f ≡ true
 unfolding of_bits

@@ -29,8 +29,6 @@ pub mod Difference
 pub mod Sums
 -- whole numbers up to 2 ^ 53
 pub mod Whole
--- the order of the bit patterns: Rust's `total_cmp`
-pub mod Bits
 -- the code's literals, and terms that compute
 pub mod Literals
 -- amounts: floats with the sign clear up to 1e12, their sums and quotients

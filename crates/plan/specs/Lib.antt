@@ -6,8 +6,6 @@ pub mod Examples
 pub mod Slices
 -- one route changed, replaced or taken out
 pub mod Routes
--- two stops or two tails of two routes exchanged
-pub mod Exchanges
 -- empty routes dropped, and the slices that a call leaves
 pub mod Dropped
 -- a plan kept in work cells
