@@ -3,5 +3,3 @@
 pub mod StopLaws
 -- specs/Schedule, as the code of `schedule` meets it
 pub mod ScheduleLaws
--- crates below, passed on to those above
-pub use Rattle.labels.proofs.of_models as of_models

@@ -9,3 +9,5 @@ pub use Rattle.labels.specs.floats as floats
 pub use Rattle.labels.specs.models as models
 pub use Rattle.labels.specs.distance as distance
 pub use Rattle.labels.specs as labels
+-- and their laws
+pub use Rattle.labels.specs.ModelsValidLaws as ModelsValidLaws

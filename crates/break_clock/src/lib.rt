@@ -5,27 +5,8 @@ pub mod route_eval;
 pub mod schedule;
 
 // Of the crates below, passed on to those above.
-pub use labels::abs;
-pub use labels::infinity;
-pub use labels::is_finite;
-pub use labels::max;
-pub use labels::min;
-pub use labels::total_less;
-pub use labels::Customer;
-pub use labels::Penalty;
-pub use labels::Window;
-pub use labels::RouteLimits;
-pub use labels::Rest;
-pub use labels::Vehicle;
-pub use labels::VehicleBreak;
-pub use labels::customer_at;
-pub use labels::penalty_at;
-pub use labels::window_at;
-pub use labels::get;
-pub use labels::largest;
-pub use labels::scale;
-pub use labels::travel_time;
-pub use labels::Label;
-pub use labels::Served;
-pub use labels::Taken;
-pub use labels::serve_at;
+pub use labels::{
+    Customer, Label, Penalty, Rest, RouteLimits, Served, Taken, Vehicle, VehicleBreak, Window, abs,
+    customer_at, get, infinity, is_finite, largest, max, min, penalty_at, scale, serve_at,
+    total_less, travel_time, window_at,
+};

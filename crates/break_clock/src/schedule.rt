@@ -5,11 +5,9 @@ ghost use Rattle.labels.specs.models.Problem.{matrix, Square, Fit};
 ghost use Rattle.break_clock.specs.Schedule.{break_clock_new, clocked, push, finish_after, finish, set_out};
 
 use crate::route_eval::{Eval, RouteEval};
-use labels::travel_time;
-use labels::{Label, Served, Taken, lives, served_from};
-use labels::Rest;
-use labels::VehicleBreak;
-use labels::customer_at;
+use labels::{
+    Label, Rest, Served, Taken, VehicleBreak, customer_at, lives, served_from, travel_time,
+};
 
 // The clock of a route that is extended one stop at a time. Each step takes the clock and hands the next one back, the break beside it.
 #[derive(Clone, Copy)]

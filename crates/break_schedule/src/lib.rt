@@ -6,40 +6,16 @@ ghost use Rattle.break_clock.specs.models.Customer.{customers};
 ghost use Rattle.break_clock.specs.models.Problem.{matrix, Square, Fit, Stops};
 ghost use Rattle.break_clock.specs.Schedule.{ride, ride_all, ride_home, schedule};
 
-
 use break_clock::schedule::Pushed;
 
 // Of the crates below, passed on to those above.
-pub use break_clock::abs;
-pub use break_clock::infinity;
-pub use break_clock::is_finite;
-pub use break_clock::max;
-pub use break_clock::min;
-pub use break_clock::total_less;
-pub use break_clock::Customer;
-pub use break_clock::Penalty;
-pub use break_clock::Window;
-pub use break_clock::RouteLimits;
-pub use break_clock::Rest;
-pub use break_clock::Vehicle;
-pub use break_clock::VehicleBreak;
-pub use break_clock::customer_at;
-pub use break_clock::penalty_at;
-pub use break_clock::window_at;
-pub use break_clock::get;
-pub use break_clock::largest;
-pub use break_clock::scale;
-pub use break_clock::travel_time;
-pub use break_clock::Label;
-pub use break_clock::Served;
-pub use break_clock::Taken;
-pub use break_clock::serve_at;
-pub use break_clock::route_eval::Eval;
-pub use break_clock::route_eval::RouteEval;
-pub use break_clock::schedule::Ridden;
-pub use break_clock::schedule::Riding;
-
-
+pub use break_clock::route_eval::{Eval, RouteEval};
+pub use break_clock::schedule::{Ridden, Riding};
+pub use break_clock::{
+    Customer, Label, Penalty, Rest, RouteLimits, Served, Taken, Vehicle, VehicleBreak, Window, abs,
+    customer_at, get, infinity, is_finite, largest, max, min, penalty_at, scale, serve_at,
+    total_less, travel_time, window_at,
+};
 
 // The drive to the next stop, on the clock and in distance.
 pub fn ride(

@@ -8,21 +8,13 @@ ghost use Rattle.c_evaluations.specs.planner.Told.{replied_told};
 ghost use Rattle.c_evaluations.specs.planner_questions.Told.{checked_told, number_told};
 ghost use Rattle.c_evaluations.specs.c_values.Said.{values, says, put, checked_values, number_values, window_values, reduction_values};
 
-use c_evaluations::put_numbers;
-use c_evaluations::Window;
-use c_evaluations::Replied;
-use c_evaluations::Checked;
-use c_evaluations::Number;
+use c_evaluations::{Checked, Number, Replied, Window, put_numbers};
 
 // Of the crates below, passed on to those above.
-pub use c_evaluations::checked_misfit;
-pub use c_evaluations::evaluated_misfit;
-pub use c_evaluations::list_misfit;
-pub use c_evaluations::number_misfit;
-pub use c_evaluations::reply_misfit;
-pub use c_evaluations::sheet_misfit;
-pub use c_evaluations::window_misfit;
-pub use c_evaluations::put_evaluated;
+pub use c_evaluations::{
+    checked_misfit, evaluated_misfit, list_misfit, number_misfit, put_evaluated, reply_misfit,
+    sheet_misfit, window_misfit,
+};
 
 // Yes or no.
 pub fn put_checked(found: &mut [u64], a: Checked) -> u8

@@ -6,23 +6,14 @@ ghost use Rattle.planner_questions.specs.planner.Calls.{answered};
 ghost use Rattle.planner_questions.specs.Told.{evaluated_told};
 ghost use Rattle.c_values.specs.Said.{values, says, put, evaluated, eval_values};
 
-use planner_questions::Eval;
-use planner_questions::RouteEval;
-use planner_questions::Taken;
-use planner_questions::Evaluated;
+use planner_questions::{Eval, Evaluated, RouteEval, Taken};
 
 // Of the crates below, passed on to those above.
-pub use planner_questions::Window;
-pub use planner_questions::Replied;
-pub use planner_questions::Checked;
-pub use planner_questions::Number;
-pub use c_values::checked_misfit;
-pub use c_values::evaluated_misfit;
-pub use c_values::list_misfit;
-pub use c_values::number_misfit;
-pub use c_values::reply_misfit;
-pub use c_values::sheet_misfit;
-pub use c_values::window_misfit;
+pub use c_values::{
+    checked_misfit, evaluated_misfit, list_misfit, number_misfit, reply_misfit, sheet_misfit,
+    window_misfit,
+};
+pub use planner_questions::{Checked, Number, Replied, Window};
 
 // Five floats.
 fn put_floats(out: &mut [f64], a: f64, b: f64, c: f64, d: f64, e: f64)

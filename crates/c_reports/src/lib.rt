@@ -8,9 +8,7 @@ use call_lists::Ran;
 use sheet_planner::Printed;
 
 // Of the crates below, passed on to those above.
-pub use call_lists::minimise;
-pub use call_lists::eliminate;
-pub use call_lists::run_calls;
+pub use call_lists::{eliminate, minimise, run_calls};
 pub use sheet_planner::plan_sheet;
 
 // The number for a list of calls.

@@ -3,10 +3,7 @@
 #![tactic(auto)]
 
 // Of the crates below, passed on to those above.
-pub use c_fits::checked_misfit;
-pub use c_fits::evaluated_misfit;
-pub use c_fits::list_misfit;
-pub use c_fits::number_misfit;
-pub use c_fits::reply_misfit;
-pub use c_fits::sheet_misfit;
-pub use c_fits::window_misfit;
+pub use c_fits::{
+    checked_misfit, evaluated_misfit, list_misfit, number_misfit, reply_misfit, sheet_misfit,
+    window_misfit,
+};

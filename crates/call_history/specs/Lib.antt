@@ -7,3 +7,6 @@ pub use Rattle.call_words.specs.local_search as local_search
 pub use Rattle.call_words.specs.entry as entry
 pub use Rattle.call_words.specs.planner as planner
 pub use Rattle.call_words.specs as call_words
+-- and their laws
+pub use Rattle.call_words.specs.PlannerDemand3 as PlannerDemand3
+pub use Rattle.call_words.proofs.FormLaws as CallWordsFormLaws

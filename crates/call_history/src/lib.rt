@@ -5,13 +5,10 @@ ghost use Rattle.std.specs.Prelude.{◌≡◌, [], ◌∷◌, ◌++◌, ◌+◌,
 ghost use Rattle.call_words.specs.planner.Told.{replied_told};
 ghost use Rattle.call_words.specs.Words.{answer_words, put};
 
-use call_words::copy_part;
-use call_words::Replied;
+use call_words::{Replied, copy_part};
 
 // Of the crates below, passed on to those above.
-pub use call_words::Vehicle;
-pub use call_words::well_formed;
-pub use call_words::words_at;
+pub use call_words::{Vehicle, well_formed, words_at};
 
 // Four words from `at` on.
 fn put_words(answers: &mut [u64], at: usize, refusal: u64, routes: u64, steps: u64, draws: u64)

@@ -26,8 +26,8 @@ use Rattle.recorded_call.specs.planner.Run.{Call, minimise, eliminate, call, run
 use Rattle.recorded_call.specs.call_words.Words.{Buffers, plan_slices, both_slices, words_first, words_of, call_of, decoded, count_of, calls_in, kind_passes, call_passes, calls_pass, well_formed, answer_words, answer_in, answer_row, slices_row, recorded, rows, put, words_at}
 use Rattle.call_lists.specs.Lists.{last_slices, replies_in, AllRun}
 use Rattle.recorded_call.specs.Recording.{Next, reply_at, Recorded}
-use Rattle.recorded_call.proofs.of_planner.Demand3.{demand_3}
-use Rattle.recorded_call.proofs.of_call_words.FormLaws.{words_more}
+use Rattle.recorded_call.specs.PlannerDemand3.{demand_3}
+use Rattle.recorded_call.specs.CallWordsFormLaws.{words_more}
 
 -- ---- the number of a refusal is not 0
 

@@ -7,13 +7,10 @@ ghost use Rattle.recorded_call.specs.models.Problem.{problem};
 ghost use Rattle.recorded_call.specs.call_words.Words.{count_of, buffers, well_formed};
 ghost use Rattle.call_lists.specs.Lists.{AllRun, Leaves};
 
-use recorded_call::well_formed;
-use recorded_call::Vehicle;
-use recorded_call::run_next;
+use recorded_call::{Vehicle, run_next, well_formed};
 
 // Of the crates below, passed on to those above.
-pub use recorded_call::minimise;
-pub use recorded_call::eliminate;
+pub use recorded_call::{eliminate, minimise};
 
 // How a list ends: its words are malformed, or so many calls were run.
 #[derive(Clone, Copy)]

@@ -10,3 +10,5 @@ pub use Rattle.planner.specs.plan as plan
 pub use Rattle.planner.specs.local_search as local_search
 pub use Rattle.planner.specs.entry as entry
 pub use Rattle.planner.specs as planner
+-- and their laws
+pub use Rattle.planner.proofs.Demand3 as PlannerDemand3

@@ -10,14 +10,11 @@ ghost use Rattle.call_words.specs.Words.{call_of};
 ghost use Rattle.called.specs.Lent.{Lent};
 
 use call_words::Words;
-
-
-use minimise_call::Vehicle;
-use minimise_call::Replied;
+use minimise_call::{Replied, Vehicle};
 
 // Of the crates below, passed on to those above.
-pub use minimise_call::minimise;
 pub use eliminate_call::eliminate;
+pub use minimise_call::minimise;
 
 // The call that the words are, with its tape beginning at `from`.
 pub fn run_call(

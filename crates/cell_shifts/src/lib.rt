@@ -5,8 +5,7 @@ ghost use Rattle.std.specs.Prelude.{◌≡◌, ◌∷◌, ◌++◌, ◌+◌, ◌
 ghost use Rattle.cells.specs.laws.Edits.{insert_at, cut};
 
 // Of the crates below, passed on to those above.
-pub use cells::clear;
-pub use cells::copy_part;
+pub use cells::{clear, copy_part};
 
 // c comes in at the front, each cell moves one place right, and the last one falls out.
 pub fn shift_right(tail: &mut [u16], c: u16)

@@ -8,12 +8,8 @@ ghost use Rattle.minimise_call.specs.planner.Told.{reply_of, slices_of, work_of}
 ghost use Rattle.change_verdict.specs.Changed.{change, replayed, replayed_as};
 
 use eliminate_call::eliminate;
-use minimise_call::minimise;
-use minimise_call::Vehicle;
-use minimise_call::Replied;
-use same_answers::{same_plan, same_stored};
-use same_answers::Stored;
-use same_answers::of_replied;
+use minimise_call::{Replied, Vehicle, minimise};
+use same_answers::{Stored, of_replied, same_plan, same_stored};
 
 // What a call answers: minimise, or eliminate for any other kind.
 fn changed(

@@ -18,7 +18,7 @@ use Rattle.route_insertion.specs.route_cost.declared.Best.{Best}
 use Rattle.route_insertion.specs.route_cost.declared.Best.TheVariants.{Nothing}
 use Rattle.route_insertion.specs.route_cost.Route.{chosen}
 use Rattle.route_insertion.specs.route_load.Feasible.{constrained}
-use Rattle.route_insertion.proofs.of_route_cost.VisitLaws.{Visiting, visit_start, part_is, visit_more, visit_laws}
+use Rattle.route_insertion.specs.RouteCostVisitLaws.{Visiting, visit_start, part_is, visit_more, visit_laws}
 use Rattle.route_insertion.specs.insertion.Cheapest.{try_route, cheapest}
 
 -- a turn of the loop over routes

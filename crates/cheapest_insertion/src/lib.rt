@@ -10,15 +10,10 @@ ghost use Rattle.route_insertion.specs.plan.Plan.{Lent, split};
 ghost use Rattle.route_insertion.specs.route_cost.Route.{chosen};
 ghost use Rattle.route_insertion.specs.insertion.Cheapest.{try_route, cheapest};
 
-
-use route_insertion::RouteCostBest as Best;
-use route_insertion::try_route;
+use route_insertion::{RouteCostBest as Best, try_route};
 
 // Of the crates below, passed on to those above.
-pub use route_insertion::Vehicle;
-pub use route_insertion::put_in;
-pub use route_insertion::RouteCostBest;
-pub use route_insertion::Counts;
+pub use route_insertion::{Counts, RouteCostBest, Vehicle, put_in};
 
 // Route k, which stands from `at` to `end` among the stops.
 fn try_part(

@@ -12,7 +12,7 @@ use Rattle.c_reports.specs.sheet_planner.declared.Printed.{Printed}
 use Rattle.c_reports.specs.sheet_planner.declared.Printed.TheVariants.{Bytes}
 use Rattle.c_reports.specs.sheet_planner.Output.{Output, output, into}
 use Rattle.c_answers.specs.c_fits.Misfit.{misfit}
-use Rattle.c_answers.proofs.of_c_values.AnswerLaws.{floats_fit, numbers_fit}
+use Rattle.c_answers.specs.CValuesAnswerLaws.{floats_fit, numbers_fit}
 use Rattle.c_reports.specs.Reports.{printed_code, bytes_written}
 use Rattle.cobrwydd.specs.Sheets.{Prints, prints, sheet_call}
 

@@ -8,8 +8,7 @@ ghost use Rattle.worth_questions.specs.planner.Told.{slices_of, work_of};
 ghost use Rattle.c_vehicle.specs.VehicleOf.{vehicle_of};
 ghost use Rattle.c_answers.specs.c_values.Said.{replies, plan_call, FreeIfDone};
 
-use c_answers::put_reply;
-use c_answers::reply_misfit;
+use c_answers::{put_reply, reply_misfit};
 use c_vehicle::vehicle_of;
 
 // Fewer routes by an ejection pool: at most `limit` steps in an attempt, draws from the tape, a clock that stops the call after `clock` steps.

@@ -7,12 +7,10 @@ ghost use Rattle.worth_questions.specs.planner.Calls.{answered, public_route_fea
 ghost use Rattle.c_vehicle.specs.VehicleOf.{vehicle_of};
 ghost use Rattle.c_answers.specs.c_values.Said.{values, says, question, checked_values, number_values, eval_values, window_values};
 
-use c_answers::{put_checked, put_number, put_window};
-use c_answers::put_evaluated;
-use c_answers::checked_misfit;
-use c_answers::evaluated_misfit;
-use c_answers::number_misfit;
-use c_answers::window_misfit;
+use c_answers::{
+    checked_misfit, evaluated_misfit, number_misfit, put_checked, put_evaluated, put_number,
+    put_window, window_misfit,
+};
 use c_vehicle::vehicle_of;
 use worth_questions::VehicleBreak;
 

@@ -4,8 +4,7 @@ ghost use Rattle.c_reports.specs.sheet_answers.Printed.{printed};
 ghost use Rattle.cobrwydd.specs.Sheets.{prints, sheet_call};
 
 use c_answers::sheet_misfit;
-use c_reports::put_printed;
-use c_reports::plan_sheet;
+use c_reports::{plan_sheet, put_printed};
 
 // What a text prints, its listing or the line of its refusal, in `out`, and in written[0] how many bytes that are.
 #[unsafe(no_mangle)]

@@ -6,3 +6,5 @@ pub mod Seen
 pub use Rattle.place_record.specs.laws as laws
 pub use Rattle.place_record.specs.floats as floats
 pub use Rattle.place_record.specs.models as models
+-- and their laws
+pub use Rattle.place_record.specs.ModelsValidLaws as ModelsValidLaws

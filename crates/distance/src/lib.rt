@@ -9,22 +9,10 @@ ghost use Rattle.distance.specs.Matrix.{cell, travel_time, largest};
 ghost use Rattle.distance.specs.Seen.{Seen};
 
 // Of the crates below, passed on to those above.
-pub use place_record::abs;
-pub use place_record::infinity;
-pub use place_record::is_finite;
-pub use place_record::max;
-pub use place_record::min;
-pub use place_record::total_less;
-pub use place_record::Customer;
-pub use place_record::Penalty;
-pub use place_record::Window;
-pub use place_record::RouteLimits;
-pub use place_record::Rest;
-pub use place_record::Vehicle;
-pub use place_record::VehicleBreak;
-pub use place_record::customer_at;
-pub use place_record::penalty_at;
-pub use place_record::window_at;
+pub use place_record::{
+    Customer, Penalty, Rest, RouteLimits, Vehicle, VehicleBreak, Window, abs, customer_at,
+    infinity, is_finite, max, min, penalty_at, total_less, window_at,
+};
 
 // The cell from one place to another. Every place on a checked problem lies in the matrix, so no cell is ever out of it.
 pub fn get(cells: &[f64], n: usize, from: usize, to: usize) -> f64

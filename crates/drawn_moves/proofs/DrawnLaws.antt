@@ -13,7 +13,7 @@ use Rattle.tail_exchange.specs.laws.Searches.{and_first, and_second}
 use Rattle.tail_exchange.specs.models.Problem.{Problem}
 use Rattle.tail_exchange.specs.plan.Plan.{Plan, Holds, Lent, HasStop, HasPosition, split, route, total, non_empty}
 use Rattle.tail_exchange.specs.plan.Slices.{length_split, length_route, route_within}
-use Rattle.tail_exchange.proofs.of_plan.PlanLaws.{length_fits}
+use Rattle.tail_exchange.specs.PlanPlanLaws.{length_fits}
 use Rattle.tail_exchange.specs.perturbation.Perturb.{draw, draw_bool, try_exchange, try_tails, try_move}
 use Rattle.tail_exchange.specs.perturbation.Parts.{drawn_exchange, drawn_tails}
 use Rattle.tail_exchange.specs.perturbation.Moves.{Between, non_empty_length, draw_in}

@@ -10,16 +10,10 @@ ghost use Rattle.tail_exchange.specs.perturbation.Perturb.{try_move};
 ghost use Rattle.tail_exchange.specs.perturbation.Parts.{drawn_exchange, drawn_tails, Movable};
 ghost use Rattle.tail_exchange.specs.perturbation.Moves.{Between};
 
-
-use tail_exchange::draw_bool;
-use tail_exchange::try_exchange;
-use tail_exchange::try_tails;
+use tail_exchange::{draw_bool, try_exchange, try_tails};
 
 // Of the crates below, passed on to those above.
-pub use tail_exchange::Vehicle;
-pub use tail_exchange::eject;
-pub use tail_exchange::draw;
-pub use tail_exchange::other_than;
+pub use tail_exchange::{Vehicle, draw, eject, other_than};
 
 // A stop of route a and a stop of route b are drawn and exchanged, where both routes stay feasible.
 fn exchange_drawn(

@@ -17,3 +17,11 @@ pub use Rattle.insertion.specs.local_search as local_search
 pub use Rattle.insertion.specs.quick_test as quick_test
 pub use Rattle.insertion.specs.route_times as route_times
 pub use Rattle.insertion.specs as insertion
+-- and their laws
+pub use Rattle.insertion.specs.PlanExchanges as PlanExchanges
+pub use Rattle.insertion.specs.RouteCostVisitLaws as RouteCostVisitLaws
+pub use Rattle.insertion.specs.RouteLoadFeasibleLaws as RouteLoadFeasibleLaws
+pub use Rattle.insertion.specs.LocalSearchNextLaws as LocalSearchNextLaws
+pub use Rattle.insertion.specs.LocalSearchReadLaws as LocalSearchReadLaws
+pub use Rattle.insertion.specs.LocalSearchSearchLaws as LocalSearchSearchLaws
+pub use Rattle.insertion.proofs.AlongLaws as InsertionAlongLaws

@@ -7,25 +7,11 @@ ghost use Rattle.ejection.specs.Eject.{kept, failures_at, failure_sum, chosen, f
 ghost use Rattle.ejection.specs.Asked.{Counted};
 
 // Of the crates below, passed on to those above.
-pub use insertion::Vehicle;
-pub use insertion::copy_part;
-pub use insertion::offset;
-pub use insertion::put_in;
-pub use insertion::take_out;
-pub use insertion::Pick;
-pub use insertion::next_pick;
-pub use insertion::insertion_cost_insertion_cost;
-pub use insertion::has_room;
-pub use insertion::within_capacity;
-pub use insertion::rounds;
-pub use insertion::checked;
-pub use insertion::constrained;
-pub use insertion::feasible;
-pub use insertion::Counts;
-pub use insertion::LocalSearchNext;
-pub use insertion::Reduction;
-pub use insertion::prepare;
-pub use insertion::may_pass;
+pub use insertion::{
+    Counts, LocalSearchNext, Pick, Reduction, Vehicle, checked, constrained, copy_part, feasible,
+    has_room, insertion_cost_insertion_cost, may_pass, next_pick, offset, prepare, put_in, rounds,
+    take_out, within_capacity,
+};
 
 // Who leaves a route and where the popped stop goes: the sum of their failures, what the insertion costs, the route, the two places in it
 // (the same one twice where one stop leaves), and the position in the kept part.

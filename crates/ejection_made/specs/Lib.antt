@@ -13,3 +13,7 @@ pub use Rattle.ejection.specs.local_search as local_search
 pub use Rattle.ejection.specs.quick_test as quick_test
 pub use Rattle.ejection.specs.insertion as insertion
 pub use Rattle.ejection.specs as ejection
+-- and their laws
+pub use Rattle.ejection.specs.LocalSearchNextLaws as LocalSearchNextLaws
+pub use Rattle.ejection.specs.LocalSearchReadLaws as LocalSearchReadLaws
+pub use Rattle.ejection.specs.LocalSearchSearchLaws as LocalSearchSearchLaws

@@ -7,19 +7,10 @@ ghost use Rattle.ejection.specs.Ejected.{Inside};
 ghost use Rattle.ejection_made.specs.Made.{stack, Made};
 
 // Of the crates below, passed on to those above.
-pub use ejection::copy_part;
-pub use ejection::offset;
-pub use ejection::Pick;
-pub use ejection::next_pick;
-pub use ejection::rounds;
-pub use ejection::constrained;
-pub use ejection::Counts;
-pub use ejection::LocalSearchNext;
-pub use ejection::Reduction;
-pub use ejection::Best as EjectionBest;
-pub use ejection::Ejection;
-
-
+pub use ejection::{
+    Best as EjectionBest, Counts, Ejection, LocalSearchNext, Pick, Reduction, constrained,
+    copy_part, next_pick, offset, rounds,
+};
 
 // The stop at i leaves route k, and c goes in at pos of what is left. Returns the stop that left.
 fn replace(lengths: &mut [u16], stops: &mut [u16], k: usize, i: usize, pos: usize, c: u16) -> u16

@@ -21,3 +21,7 @@ pub use Rattle.ejection_made.specs.route_load as route_load
 pub use Rattle.ejection_made.specs.local_search as local_search
 pub use Rattle.ejection_made.specs.quick_test as quick_test
 pub use Rattle.ejection_made.specs as ejection_made
+-- and their laws
+pub use Rattle.ejection_made.specs.LocalSearchNextLaws as LocalSearchNextLaws
+pub use Rattle.ejection_made.specs.LocalSearchReadLaws as LocalSearchReadLaws
+pub use Rattle.ejection_made.specs.LocalSearchSearchLaws as LocalSearchSearchLaws

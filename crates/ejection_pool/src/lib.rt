@@ -3,10 +3,4 @@
 #![tactic(auto)]
 
 // Of the crates below, passed on to those above.
-pub use ejection_made::Pick;
-pub use ejection_made::next_pick;
-pub use ejection_made::rounds;
-pub use ejection_made::constrained;
-pub use ejection_made::Counts;
-pub use ejection_made::LocalSearchNext;
-pub use ejection_made::Reduction;
+pub use ejection_made::{Counts, LocalSearchNext, Pick, Reduction, constrained, next_pick, rounds};

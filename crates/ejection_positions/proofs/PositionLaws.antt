@@ -13,7 +13,7 @@ use Rattle.ejection.specs.models.declared.vehicle.Vehicle.{Vehicle}
 use Rattle.ejection.specs.models.Problem.{DistanceMatrix, Problem, matrix, problem, of_demand, depot}
 use Rattle.ejection.specs.route_cost.Route.{insertion_cost}
 use Rattle.ejection.specs.route_load.Feasible.{has_room}
-use Rattle.ejection.proofs.of_local_search.ReadLaws.{insertion_any, room_any}
+use Rattle.ejection.specs.LocalSearchReadLaws.{insertion_any, room_any}
 use Rattle.ejection.specs.quick_test.Quick.{Times, times as times-along}
 use Rattle.ejection.specs.route_times.Prepared.{held, Prepared, prepared_missed, prepared_read, prepared_any}
 use Rattle.ejection.specs.insertion.Pass.{may_pass}

@@ -9,3 +9,7 @@ pub use Rattle.ejection.specs.plan as plan
 pub use Rattle.ejection.specs.route_load as route_load
 pub use Rattle.ejection.specs.local_search as local_search
 pub use Rattle.ejection.specs as ejection
+-- and their laws
+pub use Rattle.ejection.specs.PlanExchanges as PlanExchanges
+pub use Rattle.ejection.specs.RouteCostVisitLaws as RouteCostVisitLaws
+pub use Rattle.ejection.specs.RouteLoadFeasibleLaws as RouteLoadFeasibleLaws

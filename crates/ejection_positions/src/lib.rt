@@ -11,22 +11,16 @@ ghost use Rattle.ejection.specs.route_times.Prepared.{held};
 ghost use Rattle.ejection.specs.Eject.{chosen, try_left};
 ghost use Rattle.ejection_positions.specs.Pass.{none_outranks, pass_in_kept};
 
-use ejection::{Best, Ejection, outranks};
-use ejection::may_pass;
-use ejection::insertion_cost_insertion_cost as insertion_cost;
-
-use ejection::has_room;
-use ejection::prepare;
+use ejection::{
+    Best, Ejection, has_room, insertion_cost_insertion_cost as insertion_cost, may_pass, outranks,
+    prepare,
+};
 
 // Of the crates below, passed on to those above.
-pub use ejection::Vehicle;
-pub use ejection::within_capacity;
-pub use ejection::checked;
-pub use ejection::feasible;
-pub use ejection::Best as EjectionBest;
-pub use ejection::fails_more;
-pub use ejection::failure_sum;
-pub use ejection::keep;
+pub use ejection::{
+    Best as EjectionBest, Vehicle, checked, fails_more, failure_sum, feasible, keep,
+    within_capacity,
+};
 
 // Who leaves: the sum of their failures, the route and their two places in it, the same one twice where one stop leaves.
 #[derive(Clone, Copy)]

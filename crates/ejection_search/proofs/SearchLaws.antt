@@ -15,7 +15,7 @@ use Rattle.route_ejection.specs.evaluation.Check.{route_checks_needed}
 use Rattle.route_ejection.specs.local_search.Options.{or_else}
 use Rattle.route_ejection.specs.plan.Plan.{Plan, Lent, split, route}
 use Rattle.route_ejection.specs.plan.Slices.{length_split}
-use Rattle.route_ejection.proofs.of_route_cost.VisitLaws.{Visiting, visit_start, part_is, part_stops, visit_more}
+use Rattle.route_ejection.specs.RouteCostVisitLaws.{Visiting, visit_start, part_is, part_stops, visit_more}
 use Rattle.route_ejection.specs.ejection.declared.Ejection.{Ejection}
 use Rattle.route_ejection.specs.ejection.declared.Best.{Best}
 use Rattle.route_ejection.specs.ejection.declared.Best.TheVariants.{Nothing, At}

@@ -12,15 +12,10 @@ ghost use Rattle.route_ejection.specs.ejection.Eject.{chosen, eject};
 ghost use Rattle.route_ejection.specs.ejection.Asked.{Counted, Sought};
 ghost use Rattle.ejection_search.specs.Some.{try_some, eject_some};
 
-use route_ejection::EjectionBest as Best;
-
-use route_ejection::{try_one, try_two};
+use route_ejection::{EjectionBest as Best, try_one, try_two};
 
 // Of the crates below, passed on to those above.
-pub use route_ejection::Vehicle;
-pub use route_ejection::within_capacity;
-pub use route_ejection::checked;
-pub use route_ejection::feasible;
+pub use route_ejection::{Vehicle, checked, feasible, within_capacity};
 
 // One stop or two leave route k.
 fn try_some(

@@ -12,7 +12,7 @@ use Rattle.route_elimination.specs.elimination_moves.Eliminate.{eliminate_routes
 use Rattle.route_elimination.specs.elimination_round.Eliminating.{Eliminating}
 use Rattle.refusals.specs.entry.Table.{Work, refusal}
 use Rattle.refusals.specs.entry.Given.{numbered, eliminate_inputs}
-use Rattle.refusals.proofs.of_entry.AdmittedLaws.{not_refused, eliminate_accepted}
+use Rattle.refusals.specs.EntryAdmittedLaws.{not_refused, eliminate_accepted}
 use Rattle.planner.specs.Calls.{refused, answered, Reply, plan_in, public_eliminate}
 use Rattle.planner.proofs.CallLaws.{reply_refused, reply_answered}
 

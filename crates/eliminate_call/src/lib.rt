@@ -6,16 +6,12 @@ ghost use Rattle.route_elimination.specs.models.Problem.{problem};
 ghost use Rattle.planner.specs.Calls.{public_eliminate};
 ghost use Rattle.planner.specs.Told.{reply_of, slices_of, work_of, FreeIfAnswered};
 
-use route_elimination::Reduction;
-
-
 use refusals::calls::eliminate_refusal;
-use route_elimination::eliminate_routes;
+use route_elimination::{Reduction, eliminate_routes};
 
 // Of the crates below, passed on to those above.
-pub use route_elimination::Vehicle;
-pub use route_elimination::Counts;
 pub use planner::calls::Replied;
+pub use route_elimination::{Counts, Vehicle};
 
 // Fewer routes where the others take a route's stops for less than it costs. The f64 work cells are counted and not touched.
 pub fn eliminate(

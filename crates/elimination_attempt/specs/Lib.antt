@@ -9,3 +9,7 @@ pub use Rattle.route_saving.specs.local_search as local_search
 pub use Rattle.route_saving.specs.reinsertion_worth as reinsertion_worth
 pub use Rattle.route_saving.specs.elimination_moves as elimination_moves
 pub use Rattle.route_saving.specs.emptied_route as emptied_route
+-- and their laws
+pub use Rattle.route_saving.specs.LocalSearchNextLaws as LocalSearchNextLaws
+pub use Rattle.route_saving.specs.LocalSearchRoundLaws as LocalSearchRoundLaws
+pub use Rattle.route_saving.specs.LocalSearchSearchLaws as LocalSearchSearchLaws

@@ -10,23 +10,15 @@ ghost use Rattle.route_saving.specs.route_cost.Route.{gain_floor};
 ghost use Rattle.route_saving.specs.elimination_moves.Eliminate.{without_route};
 ghost use Rattle.route_saving.specs.emptied_route.Attempts.{Attempted, emptied, fewer, Left};
 
-use route_saving::empty_route;
-use route_saving::is_finite;
-
 use plan_copy::{restore, save};
-use route_saving::saved_by;
+use route_saving::{empty_route, is_finite, saved_by};
 
 // Of the crates below, passed on to those above.
-pub use route_saving::Vehicle;
-pub use route_saving::has_soft_windows;
-pub use route_saving::Pick;
-pub use route_saving::next_pick;
 pub use plan_copy::drop_empty;
-pub use route_saving::route_cost_gain_floor;
-pub use route_saving::constrained;
-pub use route_saving::Counts;
-pub use route_saving::LocalSearchNext;
-pub use route_saving::Reduction;
+pub use route_saving::{
+    Counts, LocalSearchNext, Pick, Reduction, Vehicle, constrained, has_soft_windows, next_pick,
+    route_cost_gain_floor,
+};
 
 // Route r goes and its stops find other places, where that gains: else both slices are put back from the work cells.
 fn try_without(

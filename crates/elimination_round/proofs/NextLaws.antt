@@ -15,7 +15,7 @@ use Rattle.elimination_attempt.specs.local_search.Options.{then_some}
 use Rattle.elimination_attempt.specs.route_load.Feasible.{constrained}
 use Rattle.elimination_attempt.specs.local_search.Rounds.{Tried, try_each}
 use Rattle.elimination_attempt.specs.local_search.Search.{EndsWith0, but_last, Refused, Taken, uncounted}
-use Rattle.elimination_attempt.proofs.of_local_search.NextLaws.{pick_there, next_kept, next_refused, next_accepted, next_taken}
+use Rattle.elimination_attempt.specs.LocalSearchNextLaws.{pick_there, next_kept, next_refused, next_accepted, next_taken}
 use Rattle.elimination_attempt.specs.reinsertion_worth.Worth.{soft}
 use Rattle.elimination_attempt.specs.elimination_moves.Eliminate.{without_route, attempt}
 use Rattle.elimination_attempt.specs.emptied_route.Attempts.{Attempted, fewer, Left}

@@ -6,3 +6,6 @@ pub use Rattle.elimination_attempt.specs.plan as plan
 pub use Rattle.elimination_attempt.specs.route_order as route_order
 pub use Rattle.elimination_attempt.specs.local_search as local_search
 pub use Rattle.elimination_attempt.specs.elimination_moves as elimination_moves
+-- and their laws
+pub use Rattle.elimination_attempt.specs.LocalSearchRoundLaws as LocalSearchRoundLaws
+pub use Rattle.elimination_attempt.specs.LocalSearchSearchLaws as LocalSearchSearchLaws

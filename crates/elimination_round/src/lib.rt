@@ -14,21 +14,13 @@ ghost use Rattle.elimination_attempt.specs.reinsertion_worth.Worth.{soft as soft
 ghost use Rattle.elimination_attempt.specs.elimination_moves.Eliminate.{attempt};
 ghost use Rattle.elimination_round.specs.Eliminating.{Eliminating};
 
-use elimination_attempt::without_route;
-use elimination_attempt::LocalSearchNext as Next;
-
-use elimination_attempt::next_pick;
+use elimination_attempt::{LocalSearchNext as Next, next_pick, without_route};
 
 // Of the crates below, passed on to those above.
-pub use elimination_attempt::Vehicle;
-pub use elimination_attempt::has_soft_windows;
-pub use elimination_attempt::Pick;
-pub use elimination_attempt::drop_empty;
-pub use elimination_attempt::route_cost_gain_floor;
-pub use elimination_attempt::constrained;
-pub use elimination_attempt::Counts;
-pub use elimination_attempt::LocalSearchNext;
-pub use elimination_attempt::Reduction;
+pub use elimination_attempt::{
+    Counts, LocalSearchNext, Pick, Reduction, Vehicle, constrained, drop_empty, has_soft_windows,
+    route_cost_gain_floor,
+};
 
 // The attempt at the route that comes next after the last pick. It counts nothing.
 pub fn try_next(

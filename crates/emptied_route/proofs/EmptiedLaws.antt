@@ -18,7 +18,7 @@ use Rattle.route_removal.specs.plan.Slices.{flat_split, route_split, route_withi
 use Rattle.moved_stops.specs.local_search.Options.{bind, then_some}
 use Rattle.moved_stops.specs.route_cost.Route.{gain_floor}
 use Rattle.moved_stops.specs.local_search.Planned.{planned_stops}
-use Rattle.moved_stops.proofs.of_route_cost.VisitLaws.{Visiting}
+use Rattle.moved_stops.specs.RouteCostVisitLaws.{Visiting}
 use Rattle.moved_stops.specs.elimination_moves.Eliminate.{Moved, moving, move_all, if_gained}
 use Rattle.moved_stops.specs.stop_moves.declared.Sum.{Sum}
 use Rattle.moved_stops.specs.stop_moves.declared.Sum.TheVariants.{Nothing, At}

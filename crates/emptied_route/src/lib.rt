@@ -11,26 +11,15 @@ ghost use Rattle.moved_stops.specs.elimination_moves.Largest.{in_order};
 ghost use Rattle.moved_stops.specs.stop_moves.Moves.{held_by, Waiting, Kept};
 ghost use Rattle.emptied_route.specs.Attempts.{Attempted, emptied, fewer, Accepted};
 
-use route_removal::copy_part;
-
-use moved_stops::move_all;
-
-use route_removal::erase_route;
-use moved_stops::Sum;
+use moved_stops::{Sum, move_all};
+use route_removal::{copy_part, erase_route};
 
 // Of the crates below, passed on to those above.
-pub use moved_stops::is_finite;
-pub use moved_stops::Vehicle;
-pub use moved_stops::has_soft_windows;
+pub use moved_stops::{
+    Counts, LocalSearchNext, Pick, Reduction, Vehicle, constrained, has_soft_windows, is_finite,
+    next_pick, route_cost_gain_floor, worth,
+};
 pub use route_removal::offset;
-pub use moved_stops::Pick;
-pub use moved_stops::next_pick;
-pub use moved_stops::route_cost_gain_floor;
-pub use moved_stops::constrained;
-pub use moved_stops::Counts;
-pub use moved_stops::LocalSearchNext;
-pub use moved_stops::Reduction;
-pub use moved_stops::worth;
 
 // The stops of route r become the first of the cells.
 fn keep_route(left: &mut [u16], lengths: &[u16], stops: &[u16], r: usize)

@@ -14,7 +14,7 @@ use Rattle.local_search.specs.models.declared.vehicle.Rest.TheVariants.{Break}
 use Rattle.local_search.specs.models.declared.vehicle.VehicleBreak.{VehicleBreak}
 use Rattle.local_search.specs.models.Problem.{Problem, Stops, Admitted}
 use Rattle.local_search.specs.models.Valid.{rest_passes, sizes_pass, values_pass, windows_pass, depot_passes, valid}
-use Rattle.local_search.proofs.of_models.ValidLaws.{valid_count, valid_fit, valid_demands, valid_depot}
+use Rattle.local_search.specs.ModelsValidLaws.{valid_count, valid_fit, valid_demands, valid_depot}
 use Rattle.local_search.specs.plan.Plan.{Slices, total, split}
 use Rattle.local_search.specs.plan.Slices.{flat_split_all}
 use Rattle.local_search.specs.Planned.{Planned}

@@ -5,6 +5,3 @@ pub mod StopsLaws
 pub mod EntryLaws
 -- what a call that is not refused may rely on
 pub mod AdmittedLaws
--- crates below, passed on to those above
-pub use Rattle.local_search.proofs.of_break_clock as of_break_clock
-pub use Rattle.local_search.proofs as of_local_search

@@ -3,11 +3,7 @@
 #![tactic(auto)]
 
 // Of the crates below, passed on to those above.
-pub use local_search::Vehicle;
-pub use local_search::Taken;
-pub use local_search::Eval;
-pub use local_search::RouteEval;
-pub use local_search::break_schedule_schedule;
-pub use local_search::evaluation_check;
-pub use local_search::route_cost_gain_floor;
-pub use local_search::route_cost_route_distance;
+pub use local_search::{
+    Eval, RouteEval, Taken, Vehicle, break_schedule_schedule, evaluation_check,
+    route_cost_gain_floor, route_cost_route_distance,
+};

@@ -35,8 +35,8 @@ use Rattle.break_schedule.specs.break_clock.declared.schedule.Ridden.TheVariants
 use Rattle.break_schedule.specs.break_clock.Schedule.{schedule, ride_all, ride_home, set_out as ride-out}
 use Rattle.evaluation.specs.Eval.{is_feasible, limited}
 use Rattle.evaluation.specs.Check.{departure_in, departure, set_out, reached, reach, onward, reach_all, home_allowed, homeward, feasible_with, route_feasible}
-use Rattle.break_schedule.proofs.of_break_clock.StopLaws.{stops_all, tail_part}
-use Rattle.break_schedule.proofs.of_break_clock.ScheduleLaws.{schedule_stuck, schedule_home}
+use Rattle.break_schedule.specs.BreakClockStopLaws.{stops_all, tail_part}
+use Rattle.break_schedule.specs.BreakClockScheduleLaws.{schedule_stuck, schedule_home}
 
 -- ---- departure: no window; in time; late without a penalty; late with one
 

@@ -3,6 +3,3 @@
 pub mod LimitLaws
 -- specs/Check, as the code of `check` and of `trial_route` meets it
 pub mod CheckLaws
--- crates below, passed on to those above
-pub use Rattle.break_schedule.proofs.of_models as of_models
-pub use Rattle.break_schedule.proofs.of_break_clock as of_break_clock

@@ -10,3 +10,7 @@ pub use Rattle.break_schedule.specs.models as models
 pub use Rattle.break_schedule.specs.distance as distance
 pub use Rattle.break_schedule.specs.labels as labels
 pub use Rattle.break_schedule.specs.break_clock as break_clock
+-- and their laws
+pub use Rattle.break_schedule.specs.ModelsValidLaws as ModelsValidLaws
+pub use Rattle.break_schedule.specs.BreakClockScheduleLaws as BreakClockScheduleLaws
+pub use Rattle.break_schedule.specs.BreakClockStopLaws as BreakClockStopLaws

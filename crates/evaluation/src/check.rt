@@ -6,16 +6,10 @@ ghost use Rattle.break_schedule.specs.models.Problem.{matrix, Square, Fit, Stops
 ghost use Rattle.evaluation.specs.Check.{set_out, departure, reach, reach_all, home_allowed, route_feasible};
 
 use crate::eval::{is_feasible, limited};
-use break_schedule::schedule;
-use break_schedule::get;
-use break_schedule::travel_time;
-use break_schedule::Customer;
-use break_schedule::Penalty;
-use break_schedule::Window;
-use break_schedule::RouteLimits;
-use break_schedule::Rest;
-use break_schedule::VehicleBreak;
-use break_schedule::customer_at;
+use break_schedule::{
+    Customer, Penalty, Rest, RouteLimits, VehicleBreak, Window, customer_at, get, schedule,
+    travel_time,
+};
 
 // A route as far as it has been driven: the time its last stop is left, the distance so far, and that stop.
 #[derive(Clone, Copy)]

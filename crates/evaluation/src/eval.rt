@@ -3,9 +3,7 @@
 ghost use Rattle.std.specs.Prelude.{◌≡◌};
 ghost use Rattle.evaluation.specs.Eval.{set_out, is_feasible, limited};
 
-use break_schedule::Eval;
-use break_schedule::Label;
-use break_schedule::RouteLimits;
+use break_schedule::{Eval, Label, RouteLimits};
 
 // Whether there is an evaluation: `is_some`.
 pub fn is_feasible(e: Eval) -> bool

@@ -37,7 +37,7 @@ use Rattle.lateness_bound.specs.models.Vehicle.{vehicle_break_new}
 use Rattle.lateness_bound.specs.models.RouteLimits.{allow}
 use Rattle.lateness_bound.specs.models.Problem.{DistanceMatrix, Problem, Fit, Stops}
 use Rattle.lateness_bound.specs.models.Valid.{valid}
-use Rattle.lateness_bound.proofs.of_models.ValidLaws.{Floats, valid_square, valid_service, valid_distances, valid_times, valid_window, valid_penalty}
+use Rattle.lateness_bound.specs.ModelsValidLaws.{Floats, valid_square, valid_service, valid_distances, valid_times, valid_window, valid_penalty}
 use Rattle.lateness_bound.specs.distance.Matrix.{get, travel_time, largest}
 use Rattle.lateness_bound.specs.break_clock.declared.route_eval.RouteEval.{RouteEval}
 use Rattle.lateness_bound.specs.break_clock.declared.route_eval.Eval.{Eval}
@@ -62,9 +62,9 @@ use Rattle.lateness_bound.specs.break_clock.RouteEval.{priced_distance}
 use Rattle.lateness_bound.specs.evaluation.Eval.{limited, set_out, walked, drive, onward, drive_all, home, homeward, eval_with, route_eval, worth, effective_cost}
 use Rattle.lateness_bound.specs.evaluation.Check.{has_soft_windows}
 use Rattle.lateness_bound.specs.Bound.{with_window, with_penalty, later_window, dearer_penalty, latest_window, dearest_penalty, slowest, lateness_bound}
-use Rattle.lateness_bound.proofs.of_break_clock.StopLaws.{stops_all}
-use Rattle.lateness_bound.proofs.of_break_clock.ScheduleLaws.{ridden_cases}
-use Rattle.lateness_bound.proofs.of_route_worth.EvalLaws.{walked_cases}
+use Rattle.lateness_bound.specs.BreakClockStopLaws.{stops_all}
+use Rattle.lateness_bound.specs.BreakClockScheduleLaws.{ridden_cases}
+use Rattle.lateness_bound.specs.RouteWorthEvalLaws.{walked_cases}
 
 -- ---- amounts
 

@@ -2,3 +2,6 @@
 -- crates below, passed on to those above
 pub use Rattle.plan.specs.laws as laws
 pub use Rattle.plan.specs as plan
+-- and their laws
+pub use Rattle.plan.proofs.Exchanges as PlanExchanges
+pub use Rattle.plan.proofs.PlanLaws as PlanPlanLaws

@@ -5,13 +5,7 @@ ghost use Rattle.std.specs.Prelude.{◌≡◌};
 ghost use Rattle.plan.specs.Plan.{Lent, HasStop, split, exchange_stops};
 
 // Of the crates below, passed on to those above.
-pub use plan::clear;
-pub use plan::copy_part;
-pub use plan::cut;
-pub use plan::swap_parts;
-pub use plan::offset;
-
-
+pub use plan::{clear, copy_part, cut, offset, swap_parts};
 
 // The stop at i of route a and the stop at j of route b, another one, are exchanged.
 pub fn exchange_stops(stops: &mut [u16], lengths: &[u16], a: usize, i: usize, b: usize, j: usize)

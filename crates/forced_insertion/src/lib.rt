@@ -15,18 +15,11 @@ ghost use Rattle.ejection_pool.specs.Pool.{after_eject};
 ghost use Rattle.ejection_pool.specs.Running.{Forcing, is_there, put_best, one_more};
 ghost use Rattle.forced_insertion.specs.Turned.{as_turn};
 
-use cheapest_insertion::cheapest;
-use made_room::EjectionBest as Ejected;
-use made_room::eject;
-
-use made_room::make_room;
-
-use made_room::perturb;
-use cheapest_insertion::RouteCostBest as Best;
+use cheapest_insertion::{RouteCostBest as Best, cheapest};
+use made_room::{EjectionBest as Ejected, eject, make_room, perturb};
 
 // Of the crates below, passed on to those above.
-pub use cheapest_insertion::Vehicle;
-pub use cheapest_insertion::Counts;
+pub use cheapest_insertion::{Counts, Vehicle};
 
 // How a turn ends: no ejection works; or the number in the pool. With the counts of the call so far.
 #[derive(Clone, Copy)]

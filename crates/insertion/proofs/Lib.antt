@@ -5,8 +5,3 @@ pub mod PassLaws
 pub mod AlongLaws
 -- one position of a route
 pub mod PositionLaws
--- crates below, passed on to those above
-pub use Rattle.route_times.proofs.of_plan as of_plan
-pub use Rattle.route_times.proofs.of_route_cost as of_route_cost
-pub use Rattle.route_times.proofs.of_route_load as of_route_load
-pub use Rattle.route_times.proofs.of_local_search as of_local_search

@@ -11,7 +11,7 @@ use Rattle.route_times.specs.route_cost.declared.Insertion.{Insertion}
 use Rattle.route_times.specs.route_cost.declared.Best.{Best}
 use Rattle.route_times.specs.route_cost.declared.Best.TheVariants.{At}
 use Rattle.route_times.specs.route_cost.Route.{insertion_cost, chosen}
-use Rattle.route_times.proofs.of_local_search.ReadLaws.{insertion_any}
+use Rattle.route_times.specs.LocalSearchReadLaws.{insertion_any}
 use Rattle.route_times.specs.quick_test.Quick.{Times}
 use Rattle.insertion.specs.Cheapest.{cheaper}
 use Rattle.insertion.specs.Pass.{may_pass, pass_position}

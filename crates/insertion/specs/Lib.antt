@@ -16,3 +16,10 @@ pub use Rattle.route_times.specs.route_load as route_load
 pub use Rattle.route_times.specs.local_search as local_search
 pub use Rattle.route_times.specs.quick_test as quick_test
 pub use Rattle.route_times.specs as route_times
+-- and their laws
+pub use Rattle.route_times.specs.PlanExchanges as PlanExchanges
+pub use Rattle.route_times.specs.RouteCostVisitLaws as RouteCostVisitLaws
+pub use Rattle.route_times.specs.RouteLoadFeasibleLaws as RouteLoadFeasibleLaws
+pub use Rattle.route_times.specs.LocalSearchNextLaws as LocalSearchNextLaws
+pub use Rattle.route_times.specs.LocalSearchReadLaws as LocalSearchReadLaws
+pub use Rattle.route_times.specs.LocalSearchSearchLaws as LocalSearchSearchLaws

@@ -8,7 +8,7 @@ use Rattle.route_times.specs.models.Problem.{Problem, problem, depot}
 use Rattle.route_times.specs.route_cost.declared.Insertion.{Insertion}
 use Rattle.route_times.specs.route_cost.Route.{insertion_cost}
 use Rattle.route_times.specs.route_load.Feasible.{constrained, has_room, checked}
-use Rattle.route_times.proofs.of_route_load.FeasibleLaws.{trial_within}
+use Rattle.route_times.specs.RouteLoadFeasibleLaws.{trial_within}
 use Rattle.route_times.specs.quick_test.Quick.{may_fit, Times}
 use Rattle.insertion.specs.Cheapest.{may_go_in, cheaper, try_position}
 

@@ -13,33 +13,17 @@ ghost use Rattle.route_times.specs.Prepared.{held};
 ghost use Rattle.insertion.specs.Cheapest.{cheaper};
 ghost use Rattle.insertion.specs.Pass.{may_pass, pass_position};
 
-use route_times::insertion_cost_insertion_cost as insertion_cost;
-use route_times::trial_ok;
-
-use route_times::may_fit;
-use route_times::RouteCostBest as Best;
-use route_times::Insertion;
+use route_times::{
+    Insertion, RouteCostBest as Best, insertion_cost_insertion_cost as insertion_cost, may_fit,
+    trial_ok,
+};
 
 // Of the crates below, passed on to those above.
-pub use route_times::Vehicle;
-pub use route_times::copy_part;
-pub use route_times::offset;
-pub use route_times::put_in;
-pub use route_times::take_out;
-pub use route_times::Pick;
-pub use route_times::next_pick;
-pub use route_times::RouteCostBest;
-pub use route_times::insertion_cost_insertion_cost;
-pub use route_times::has_room;
-pub use route_times::within_capacity;
-pub use route_times::rounds;
-pub use route_times::checked;
-pub use route_times::constrained;
-pub use route_times::feasible;
-pub use route_times::Counts;
-pub use route_times::LocalSearchNext;
-pub use route_times::Reduction;
-pub use route_times::prepare;
+pub use route_times::{
+    Counts, LocalSearchNext, Pick, Reduction, RouteCostBest, Vehicle, checked, constrained,
+    copy_part, feasible, has_room, insertion_cost_insertion_cost, next_pick, offset, prepare,
+    put_in, rounds, take_out, within_capacity,
+};
 
 // The quick test by the departures and latest arrivals in the work cells.
 fn quick(

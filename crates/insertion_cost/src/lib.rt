@@ -9,38 +9,13 @@ ghost use Rattle.local_search.specs.route_cost.Route.{prev_stop, next_stop, inse
 use local_search::get;
 
 // Of the crates below, passed on to those above.
-pub use local_search::abs;
-pub use local_search::infinity;
-pub use local_search::max;
-pub use local_search::min;
-pub use local_search::Customer;
-pub use local_search::Window;
-pub use local_search::Vehicle;
-pub use local_search::customer_at;
-pub use local_search::travel_time;
-pub use local_search::Left;
-pub use local_search::copy_part;
-pub use local_search::cut;
-pub use local_search::insert_at;
-pub use local_search::offset;
-pub use local_search::put_in;
-pub use local_search::take_out;
-pub use local_search::Pick;
-pub use local_search::next_pick;
-pub use local_search::RouteCostBest;
-pub use local_search::Insertion;
-pub use local_search::route_cost_gain_floor;
-pub use local_search::route_cost_route_distance;
-pub use local_search::has_room;
-pub use local_search::within_capacity;
-pub use local_search::rounds;
-pub use local_search::feasible::checked;
-pub use local_search::feasible::constrained;
-pub use local_search::feasible::feasible;
-pub use local_search::feasible::trial_ok;
-pub use local_search::rounds::Counts;
-pub use local_search::rounds::Next as LocalSearchNext;
-pub use local_search::rounds::Reduction;
+pub use local_search::feasible::{checked, constrained, feasible, trial_ok};
+pub use local_search::rounds::{Counts, Next as LocalSearchNext, Reduction};
+pub use local_search::{
+    Customer, Insertion, Left, Pick, RouteCostBest, Vehicle, Window, abs, copy_part, customer_at,
+    cut, has_room, infinity, insert_at, max, min, next_pick, offset, put_in, rounds,
+    route_cost_gain_floor, route_cost_route_distance, take_out, travel_time, within_capacity,
+};
 
 // The stop before position pos of a route, the depot before the first.
 pub fn prev_stop(depot: usize, route: &[u16], pos: usize) -> usize

@@ -15,8 +15,8 @@ use Rattle.stop_exchange.specs.laws.Lists.{drop_take}
 use Rattle.stop_exchange.specs.models.Problem.{Problem, Stops}
 use Rattle.stop_exchange.specs.plan.Plan.{Plan, Lent, HasPosition, split, route, total, offset, non_empty, exchange_tails}
 use Rattle.stop_exchange.specs.plan.Slices.{length_route, route_split, route_within, total_set, position_route, position_within}
-use Rattle.stop_exchange.proofs.of_plan.Exchanges.{length_exchange_tails, occurs_exchange_tails, number_exchange_tails, first_exchange_tails}
-use Rattle.stop_exchange.proofs.of_plan.PlanLaws.{position_upto, position_fits, position_length_fits}
+use Rattle.stop_exchange.specs.PlanExchanges.{length_exchange_tails, occurs_exchange_tails, number_exchange_tails, first_exchange_tails}
+use Rattle.stop_exchange.specs.PlanPlanLaws.{position_upto, position_fits, position_length_fits}
 use Rattle.stop_exchange.specs.route_load.Feasible.{load, fits, feasible}
 use Rattle.stop_exchange.specs.local_search.Planned.{Planned, planned_stops, planned_as}
 use Rattle.stop_exchange.specs.perturbation.Parts.{joined, joined_stands}

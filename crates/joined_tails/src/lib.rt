@@ -11,19 +11,10 @@ ghost use Rattle.stop_exchange.specs.route_load.Feasible.{load, fits, feasible};
 ghost use Rattle.stop_exchange.specs.local_search.Planned.{Planned};
 ghost use Rattle.stop_exchange.specs.perturbation.Parts.{joined, joined_stands};
 
-use stop_exchange::copy_part;
-use stop_exchange::feasible;
-
-use stop_exchange::offset;
-use stop_exchange::within_capacity;
+use stop_exchange::{copy_part, feasible, offset, within_capacity};
 
 // Of the crates below, passed on to those above.
-pub use stop_exchange::Vehicle;
-pub use stop_exchange::eject;
-pub use stop_exchange::draw;
-pub use stop_exchange::draw_bool;
-pub use stop_exchange::other_than;
-pub use stop_exchange::try_exchange;
+pub use stop_exchange::{Vehicle, draw, draw_bool, eject, other_than, try_exchange};
 
 // The front of route a up to i goes to the first work cells, and behind it the tail of route b from j. Returns how many stops these are.
 fn join(

@@ -5,30 +5,10 @@ ghost use Rattle.std.specs.Prelude.{◌≡◌};
 ghost use Rattle.labels.specs.Labels.{serve_at, serve, served_from, sooner, earlier, lives};
 
 // Of the crates below, passed on to those above.
-pub use distance::abs;
-pub use distance::infinity;
-pub use distance::is_finite;
-pub use distance::max;
-pub use distance::min;
-pub use distance::total_less;
-pub use distance::Customer;
-pub use distance::Penalty;
-pub use distance::Window;
-pub use distance::RouteLimits;
-pub use distance::Rest;
-pub use distance::Vehicle;
-pub use distance::VehicleBreak;
-pub use distance::customer_at;
-pub use distance::penalty_at;
-pub use distance::window_at;
-pub use distance::get;
-pub use distance::largest;
-pub use distance::scale;
-pub use distance::travel_time;
-
-
-
-
+pub use distance::{
+    Customer, Penalty, Rest, RouteLimits, Vehicle, VehicleBreak, Window, abs, customer_at, get,
+    infinity, is_finite, largest, max, min, penalty_at, scale, total_less, travel_time, window_at,
+};
 
 // The break, if taken: the index in the route of the stop that it comes before the service of, and its start. `Option<(usize, f64)>`.
 #[derive(Clone, Copy)]

@@ -9,3 +9,8 @@ pub use Rattle.route_worth.specs.distance as distance
 pub use Rattle.route_worth.specs.labels as labels
 pub use Rattle.route_worth.specs.break_clock as break_clock
 pub use Rattle.route_worth.specs.evaluation as evaluation
+-- and their laws
+pub use Rattle.route_worth.specs.ModelsValidLaws as ModelsValidLaws
+pub use Rattle.route_worth.specs.BreakClockScheduleLaws as BreakClockScheduleLaws
+pub use Rattle.route_worth.specs.BreakClockStopLaws as BreakClockStopLaws
+pub use Rattle.route_worth.proofs.EvalLaws as RouteWorthEvalLaws

@@ -6,13 +6,7 @@ ghost use Rattle.route_worth.specs.models.Customer.{customers};
 ghost use Rattle.route_worth.specs.models.Problem.{matrix, Square, Fit};
 ghost use Rattle.lateness_bound.specs.Bound.{with_window, with_penalty, latest_window, dearest_penalty, slowest, lateness_bound};
 
-use route_worth::largest;
-use route_worth::max;
-use route_worth::Penalty;
-use route_worth::Window;
-use route_worth::penalty_at;
-use route_worth::window_at;
-use route_worth::has_soft_windows;
+use route_worth::{Penalty, Window, has_soft_windows, largest, max, penalty_at, window_at};
 
 // The larger of `most` and both ends of a window, if there is one.
 fn with_window(most: f64, window: Window) -> f64

@@ -4,6 +4,6 @@
 pub mod bound;
 
 // Of the crates below, passed on to those above.
-pub use route_worth::Vehicle;
-pub use route_worth::effective_cost as route_worth_effective_cost;
-pub use route_worth::route_eval as route_worth_route_eval;
+pub use route_worth::{
+    Vehicle, effective_cost as route_worth_effective_cost, route_eval as route_worth_route_eval,
+};

@@ -8,36 +8,14 @@ ghost use Rattle.quick_fit.specs.models.Problem.{matrix, Fit};
 ghost use Rattle.quick_fit.specs.quick_test.Quick.{earliest_start, latest_start, latest_arrival};
 ghost use Rattle.quick_fit.specs.quick_test.Parts.{latest_in};
 
-use quick_fit::travel_time;
-use quick_fit::min;
-use quick_fit::Window;
-use quick_fit::customer_at;
+use quick_fit::{Window, customer_at, min, travel_time};
 
 // Of the crates below, passed on to those above.
-pub use quick_fit::infinity;
-pub use quick_fit::Vehicle;
-pub use quick_fit::Left;
-pub use quick_fit::copy_part;
-pub use quick_fit::offset;
-pub use quick_fit::put_in;
-pub use quick_fit::take_out;
-pub use quick_fit::Pick;
-pub use quick_fit::next_pick;
-pub use quick_fit::RouteCostBest;
-pub use quick_fit::Insertion;
-pub use quick_fit::insertion_cost_insertion_cost;
-pub use quick_fit::has_room;
-pub use quick_fit::within_capacity;
-pub use quick_fit::rounds;
-pub use quick_fit::checked;
-pub use quick_fit::constrained;
-pub use quick_fit::feasible;
-pub use quick_fit::trial_ok;
-pub use quick_fit::Counts;
-pub use quick_fit::LocalSearchNext;
-pub use quick_fit::Reduction;
-pub use quick_fit::leave;
-pub use quick_fit::may_fit;
+pub use quick_fit::{
+    Counts, Insertion, Left, LocalSearchNext, Pick, Reduction, RouteCostBest, Vehicle, checked,
+    constrained, copy_part, feasible, has_room, infinity, insertion_cost_insertion_cost, leave,
+    may_fit, next_pick, offset, put_in, rounds, take_out, trial_ok, within_capacity,
+};
 
 // When service may start at the earliest, where there is a window.
 fn earliest_start(window: Window) -> f64

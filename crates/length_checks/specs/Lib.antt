@@ -9,3 +9,7 @@ pub use Rattle.entry.specs.plan as plan
 pub use Rattle.entry.specs.route_cost as route_cost
 pub use Rattle.entry.specs.local_search as local_search
 pub use Rattle.entry.specs as entry
+-- and their laws
+pub use Rattle.entry.specs.BreakClockStopLaws as BreakClockStopLaws
+pub use Rattle.entry.specs.LocalSearchReadLaws as LocalSearchReadLaws
+pub use Rattle.entry.proofs.AdmittedLaws as EntryAdmittedLaws

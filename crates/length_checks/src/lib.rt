@@ -6,14 +6,10 @@ ghost use Rattle.entry.specs.plan.Plan.{Slices, total};
 ghost use Rattle.entry.specs.Table.{bad_lengths};
 
 // Of the crates below, passed on to those above.
-pub use entry::Vehicle;
-pub use entry::Taken;
-pub use entry::Eval;
-pub use entry::RouteEval;
-pub use entry::break_schedule_schedule;
-pub use entry::evaluation_check;
-pub use entry::route_cost_gain_floor;
-pub use entry::route_cost_route_distance;
+pub use entry::{
+    Eval, RouteEval, Taken, Vehicle, break_schedule_schedule, evaluation_check,
+    route_cost_gain_floor, route_cost_route_distance,
+};
 
 // The sum of the lengths.
 fn total(lengths: &[u16]) -> usize

@@ -11,3 +11,6 @@ pub use Rattle.local_search.specs.plan as plan
 pub use Rattle.local_search.specs.route_cost as route_cost
 pub use Rattle.local_search.specs.route_load as route_load
 pub use Rattle.local_search.specs as local_search
+-- and their laws
+pub use Rattle.local_search.specs.RouteCostVisitLaws as RouteCostVisitLaws
+pub use Rattle.local_search.specs.RouteLoadFeasibleLaws as RouteLoadFeasibleLaws

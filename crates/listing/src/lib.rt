@@ -4,7 +4,5 @@
 #![tactic(auto)]
 
 // Of the crates below, passed on to those above.
-pub use local_search::Vehicle;
-pub use local_search::route_cost_route_distance;
-pub use local_search::load;
 pub use local_search::rounds::Counts;
+pub use local_search::{Vehicle, load, route_cost_route_distance};

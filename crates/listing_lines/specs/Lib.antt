@@ -6,3 +6,7 @@ pub use Rattle.listing_numbers.specs.plan as plan
 pub use Rattle.listing_numbers.specs.route_cost as route_cost
 pub use Rattle.listing_numbers.specs.route_load as route_load
 pub use Rattle.listing_numbers.specs.listing as listing
+-- and their laws
+pub use Rattle.listing_numbers.specs.RouteCostVisitLaws as RouteCostVisitLaws
+pub use Rattle.listing_numbers.specs.RouteLoadFeasibleLaws as RouteLoadFeasibleLaws
+pub use Rattle.listing_numbers.specs.ListingWriteLaws as ListingWriteLaws

@@ -7,9 +7,7 @@ ghost use Rattle.listing_numbers.specs.listing.Written.{Room, Written};
 use listing_numbers::{put_bytes, put_decimal, put_signed};
 
 // Of the crates below, passed on to those above.
-pub use listing_numbers::Vehicle;
-pub use listing_numbers::route_cost_route_distance;
-pub use listing_numbers::load;
+pub use listing_numbers::{Vehicle, load, route_cost_route_distance};
 
 // A stop behind a space.
 fn put_stop(out: &mut [u8], at: usize, c: u64) -> usize

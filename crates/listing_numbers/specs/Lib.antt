@@ -7,3 +7,7 @@ pub use Rattle.listing.specs.route_cost as route_cost
 pub use Rattle.listing.specs.route_load as route_load
 pub use Rattle.listing.specs.local_search as local_search
 pub use Rattle.listing.specs as listing
+-- and their laws
+pub use Rattle.listing.specs.RouteCostVisitLaws as RouteCostVisitLaws
+pub use Rattle.listing.specs.RouteLoadFeasibleLaws as RouteLoadFeasibleLaws
+pub use Rattle.listing.proofs.WriteLaws as ListingWriteLaws

@@ -7,10 +7,7 @@ ghost use Rattle.listing.specs.Decimal.{digits, decimal, signed};
 ghost use Rattle.listing.specs.Written.{Room, Written};
 
 // Of the crates below, passed on to those above.
-pub use listing::Vehicle;
-pub use listing::route_cost_route_distance;
-pub use listing::load;
-pub use listing::Counts;
+pub use listing::{Counts, Vehicle, load, route_cost_route_distance};
 
 // The bytes of a word.
 pub fn put_bytes(out: &mut [u8], at: usize, word: &[u8]) -> usize

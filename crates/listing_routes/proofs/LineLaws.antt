@@ -20,12 +20,12 @@ use Rattle.listing_lines.specs.plan.Plan.{Plan, Lent, split, route}
 use Rattle.listing_lines.specs.plan.Slices.{length_split}
 use Rattle.listing_lines.specs.route_cost.Route.{route_distance}
 use Rattle.listing_lines.specs.route_load.Feasible.{load}
-use Rattle.listing_lines.proofs.of_route_load.FeasibleLaws.{demands_own, stops_own, load_small}
-use Rattle.listing_lines.proofs.of_route_cost.VisitLaws.{Visiting, visit_start, part_is, part_stops, visit_more}
+use Rattle.listing_lines.specs.RouteLoadFeasibleLaws.{demands_own, stops_own, load_small}
+use Rattle.listing_lines.specs.RouteCostVisitLaws.{Visiting, visit_start, part_is, part_stops, visit_more}
 use Rattle.listing_lines.specs.listing.Decimal.{text}
 use Rattle.listing_lines.specs.listing.Listing.{whole, of_listing, Prints, route_line, line_of, route_lines}
 use Rattle.listing_lines.specs.listing.Written.{Room, Written}
-use Rattle.listing_lines.proofs.of_listing.WriteLaws.{Writing, writing_start, writing_end, writing_more, writing_room, room_front}
+use Rattle.listing_lines.specs.ListingWriteLaws.{Writing, writing_start, writing_end, writing_more, writing_room, room_front}
 
 -- ---- one route: its load and its distance are handed on
 

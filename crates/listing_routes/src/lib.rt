@@ -8,10 +8,7 @@ ghost use Rattle.listing_lines.specs.plan.Plan.{Lent, split};
 ghost use Rattle.listing_lines.specs.listing.Listing.{of_listing, Prints, line_of, route_lines};
 ghost use Rattle.listing_lines.specs.listing.Written.{Room, Written};
 
-use listing_lines::put_route_line;
-use listing_lines::Vehicle;
-use listing_lines::route_cost_route_distance as route_distance;
-use listing_lines::load;
+use listing_lines::{Vehicle, load, put_route_line, route_cost_route_distance as route_distance};
 
 // The line of a route, with its load and its distance.
 fn put_route(

@@ -5,3 +5,5 @@ pub use Rattle.listing_numbers.specs.models as models
 pub use Rattle.listing_numbers.specs.plan as plan
 pub use Rattle.listing_numbers.specs.local_search as local_search
 pub use Rattle.listing_numbers.specs.listing as listing
+-- and their laws
+pub use Rattle.listing_numbers.specs.ListingWriteLaws as ListingWriteLaws

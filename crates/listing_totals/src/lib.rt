@@ -7,8 +7,7 @@ ghost use Rattle.listing_numbers.specs.listing.Written.{Room, Written};
 use listing_numbers::{put_bytes, put_decimal};
 
 // Of the crates below, passed on to those above.
-pub use listing_numbers::Vehicle;
-pub use listing_numbers::Counts;
+pub use listing_numbers::{Counts, Vehicle};
 
 // The first line of a listing.
 pub fn put_first_line(out: &mut [u8], at: usize, routes: u64) -> usize

@@ -13,7 +13,7 @@ use Rattle.listing_totals.specs.local_search.declared.rounds.Counts.{Counts}
 use Rattle.listing_totals.specs.listing.Decimal.{text}
 use Rattle.listing_totals.specs.listing.Listing.{route_lines, first_line, last_line, listing}
 use Rattle.listing_totals.specs.listing.Written.{Room, Written}
-use Rattle.listing_totals.proofs.of_listing.WriteLaws.{room_first, room_more, text_more, text_last}
+use Rattle.listing_totals.specs.ListingWriteLaws.{room_first, room_more, text_more, text_last}
 
 split_take : (ls s : List ℕ) (k : ℕ) → split (take k ls) s ≡ take k (split ls s)
 unfolding split

@@ -9,9 +9,7 @@ ghost use Rattle.listing_totals.specs.listing.Listing.{of_listing, Prints, listi
 ghost use Rattle.listing_totals.specs.listing.Written.{Room, Written};
 
 use listing_routes::put_routes;
-use listing_totals::{put_first_line, put_last_line};
-use listing_totals::Counts;
-use listing_totals::Vehicle;
+use listing_totals::{Counts, Vehicle, put_first_line, put_last_line};
 
 // Of the crates below, passed on to those above.
 pub use listing_totals::put_refusal;

@@ -25,3 +25,9 @@ pub use Rattle.route_order.specs.plan as plan
 pub use Rattle.route_order.specs as route_order
 pub use Rattle.route_load.specs.route_cost as route_cost
 pub use Rattle.route_load.specs as route_load
+-- and their laws
+pub use Rattle.route_load.specs.ModelsValidLaws as ModelsValidLaws
+pub use Rattle.route_load.specs.BreakClockStopLaws as BreakClockStopLaws
+pub use Rattle.route_order.specs.PlanExchanges as PlanExchanges
+pub use Rattle.route_load.specs.RouteCostVisitLaws as RouteCostVisitLaws
+pub use Rattle.route_load.proofs.FeasibleLaws as RouteLoadFeasibleLaws

@@ -7,12 +7,10 @@ ghost use Rattle.route_load.specs.models.Problem.{matrix, problem, Fit, Stops, D
 ghost use Rattle.route_load.specs.evaluation.Check.{route_checks_needed};
 ghost use Rattle.route_load.specs.Feasible.{checked, feasible};
 
-use route_load::evaluation_route_feasible as route_feasible;
-use route_load::RouteLimits;
-use route_load::Vehicle;
-use route_load::route_checks_needed;
-use route_load::within_capacity;
-use route_load::trial_feasible;
+use route_load::{
+    RouteLimits, Vehicle, evaluation_route_feasible as route_feasible, route_checks_needed,
+    trial_feasible, within_capacity,
+};
 
 // Whether the route check is needed. A search asks this once.
 pub fn constrained(flags: &[u8], vehicle: Vehicle) -> bool

@@ -6,13 +6,11 @@ ghost use Rattle.ejection_made.specs.plan.Plan.{Lent, split, total};
 ghost use Rattle.ejection_made.specs.ejection.Ejected.{Inside};
 ghost use Rattle.ejection_made.specs.Made.{stack, Made};
 
-use ejection_made::Ejection;
-use ejection_made::{make_one, make_two};
+use ejection_made::{Ejection, make_one, make_two};
 
 // Of the crates below, passed on to those above.
 pub use ejection_made::EjectionBest;
-pub use random_moves::eject;
-pub use random_moves::perturb;
+pub use random_moves::{eject, perturb};
 
 // The ejection is made for c. Returns how many the pool has then.
 pub fn make_room(

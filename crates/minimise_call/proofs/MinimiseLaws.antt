@@ -14,7 +14,7 @@ use Rattle.route_minimization.specs.minimization_search.Minimizing.{Searching}
 use Rattle.route_minimization.specs.ejection_pool.Running.{allowance}
 use Rattle.refusals.specs.entry.Table.{Work, refusal}
 use Rattle.refusals.specs.entry.Given.{numbered, minimise_inputs}
-use Rattle.refusals.proofs.of_entry.AdmittedLaws.{not_refused, minimise_accepted}
+use Rattle.refusals.specs.EntryAdmittedLaws.{not_refused, minimise_accepted}
 use Rattle.planner.specs.Calls.{refused, answered, Reply, plan_in, public_minimise}
 use Rattle.planner.specs.Told.{work_of}
 use Rattle.planner.proofs.CallLaws.{reply_refused, reply_answered}

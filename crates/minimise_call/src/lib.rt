@@ -7,14 +7,12 @@ ghost use Rattle.route_minimization.specs.ejection_pool.Running.{allowance};
 ghost use Rattle.planner.specs.Calls.{public_minimise};
 ghost use Rattle.planner.specs.Told.{reply_of, slices_of, work_of, FreeIfAnswered};
 
-
-
 use refusals::calls::minimise_refusal;
 use route_minimization::minimize_routes;
 
 // Of the crates below, passed on to those above.
-pub use route_minimization::Vehicle;
 pub use planner::calls::Replied;
+pub use route_minimization::Vehicle;
 
 // Fewer routes by an ejection pool, with at most `limit` steps in an attempt, draws from the tape, and a clock that stops at the asking after the first
 // `clock`.

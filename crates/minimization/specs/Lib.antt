@@ -24,3 +24,7 @@ pub use Rattle.pool_cost.specs.route_load as route_load
 pub use Rattle.pool_cost.specs.local_search as local_search
 pub use Rattle.pool_cost.specs.ejection_pool as ejection_pool
 pub use Rattle.pool_cost.specs as pool_cost
+-- and their laws
+pub use Rattle.pool_cost.specs.LocalSearchNextLaws as LocalSearchNextLaws
+pub use Rattle.pool_cost.specs.LocalSearchSearchLaws as LocalSearchSearchLaws
+pub use Rattle.pool_cost.proofs.CostLaws as PoolCostCostLaws

@@ -3,14 +3,7 @@
 #![tactic(auto)]
 
 // Of the crates below, passed on to those above.
-pub use pool_cost::Vehicle;
-pub use pool_cost::has_soft_windows;
-pub use pool_cost::copy_part;
-pub use pool_cost::Pick;
-pub use pool_cost::next_pick;
-pub use pool_cost::plan_cost_plan_cost;
-pub use pool_cost::rounds;
-pub use pool_cost::constrained;
-pub use pool_cost::Counts;
-pub use pool_cost::LocalSearchNext;
-pub use pool_cost::Reduction;
+pub use pool_cost::{
+    Counts, LocalSearchNext, Pick, Reduction, Vehicle, constrained, copy_part, has_soft_windows,
+    next_pick, plan_cost_plan_cost, rounds,
+};

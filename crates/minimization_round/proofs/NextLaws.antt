@@ -15,7 +15,7 @@ use Rattle.minimization.specs.local_search.Planned.{Planned}
 use Rattle.minimization.specs.route_cost.Route.{cost}
 use Rattle.minimization.specs.local_search.Rounds.{Tried, try_each}
 use Rattle.minimization.specs.local_search.Search.{Refused, Taken, but_last}
-use Rattle.minimization.proofs.of_local_search.NextLaws.{in_use, next_kept, next_refused, next_accepted, next_taken}
+use Rattle.minimization.specs.LocalSearchNextLaws.{in_use, next_kept, next_refused, next_accepted, next_taken}
 use Rattle.route_attempt.specs.pool_attempt.declared.Attempted.{Attempted}
 use Rattle.route_attempt.specs.pool_attempt.declared.Attempted.TheVariants.{Kept, Accepted}
 use Rattle.minimization.specs.ejection_pool.Pool.{Allowance}
@@ -23,7 +23,7 @@ use Rattle.minimization.specs.pool_cost.Attempt.{attempt}
 use Rattle.minimization.specs.Attempted.{attempt_reduces}
 use Rattle.route_attempt.specs.pool_attempt.Judged.{tried}
 use Rattle.route_attempt.specs.Leaves.{Leaves}
-use Rattle.minimization.proofs.of_pool_cost.CostLaws.{cost_whole}
+use Rattle.minimization.specs.PoolCostCostLaws.{cost_whole}
 
 -- ---- the start of a round
 

@@ -11,3 +11,5 @@ pub use Rattle.minimization.specs.ejection_pool as ejection_pool
 pub use Rattle.minimization.specs.pool_cost as pool_cost
 pub use Rattle.minimization.specs as minimization
 pub use Rattle.route_attempt.specs.route_without as route_without
+-- and their laws
+pub use Rattle.minimization.specs.LocalSearchSearchLaws as LocalSearchSearchLaws

@@ -14,23 +14,13 @@ ghost use Rattle.minimization.specs.pool_cost.Attempt.{attempt};
 ghost use Rattle.minimization.specs.ejection_pool.Running.{allowance};
 ghost use Rattle.route_attempt.specs.route_without.Attempting.{Attempting};
 
-use minimization::LocalSearchNext as Next;
-
-use minimization::plan_cost_plan_cost as plan_cost;
-use route_attempt::Attempted;
-use route_attempt::attempt;
-use minimization::next_pick;
-use route_attempt::drop_empty;
+use minimization::{LocalSearchNext as Next, next_pick, plan_cost_plan_cost as plan_cost};
+use route_attempt::{Attempted, attempt, drop_empty};
 
 // Of the crates below, passed on to those above.
-pub use minimization::Vehicle;
-pub use minimization::has_soft_windows;
-pub use minimization::Pick;
-pub use minimization::rounds;
-pub use minimization::constrained;
-pub use minimization::Counts;
-pub use minimization::LocalSearchNext;
-pub use minimization::Reduction;
+pub use minimization::{
+    Counts, LocalSearchNext, Pick, Reduction, Vehicle, constrained, has_soft_windows, rounds,
+};
 
 // What a round starts with: how many routes there are, and what they cost.
 #[derive(Clone, Copy)]

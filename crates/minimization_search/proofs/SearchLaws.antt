@@ -13,7 +13,7 @@ use Rattle.minimization_round.specs.evaluation.Check.{route_checks_needed}
 use Rattle.minimization_round.specs.route_order.declared.Pick.{Pick}
 use Rattle.minimization_round.specs.local_search.declared.rounds.Counts.{Counts}
 use Rattle.minimization_round.specs.local_search.Reduced.{triangle, triangle_is}
-use Rattle.minimization_round.proofs.of_local_search.SearchLaws.{Trying, trying_steps, trying_whole, trying_few, trying_planned}
+use Rattle.minimization_round.specs.LocalSearchSearchLaws.{Trying, trying_steps, trying_whole, trying_few, trying_planned}
 use Rattle.minimization_round.specs.ejection_pool.Pool.{Allowance}
 use Rattle.minimization_round.specs.pool_cost.Attempt.{attempt}
 use Rattle.minimization_round.specs.route_without.Attempting.{Attempting}

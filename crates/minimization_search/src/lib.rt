@@ -12,18 +12,10 @@ ghost use Rattle.minimization_round.specs.pool_cost.Attempt.{attempt};
 ghost use Rattle.minimization_round.specs.ejection_pool.Running.{allowance};
 ghost use Rattle.minimization_search.specs.Minimizing.{Searching};
 
-use minimization_round::LocalSearchNext as Next;
-use minimization_round::{begin, try_next};
-
-use minimization_round::Pick;
+use minimization_round::{LocalSearchNext as Next, Pick, begin, try_next};
 
 // Of the crates below, passed on to those above.
-pub use minimization_round::Vehicle;
-pub use minimization_round::has_soft_windows;
-pub use minimization_round::rounds;
-pub use minimization_round::constrained;
-pub use minimization_round::Counts;
-pub use minimization_round::Reduction;
+pub use minimization_round::{Counts, Reduction, Vehicle, constrained, has_soft_windows, rounds};
 
 // Rounds of attempts, begun again from the shortest route as soon as one is accepted.
 pub fn search(

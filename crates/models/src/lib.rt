@@ -7,10 +7,4 @@ pub mod limits;
 pub mod vehicle;
 
 // Of the crates below, passed on to those above.
-pub use float_functions::abs;
-pub use float_functions::infinity;
-pub use float_functions::is_finite;
-pub use float_functions::is_sign_negative;
-pub use float_functions::max;
-pub use float_functions::min;
-pub use float_functions::total_less;
+pub use float_functions::{abs, infinity, is_finite, is_sign_negative, max, min, total_less};

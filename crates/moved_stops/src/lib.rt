@@ -9,24 +9,13 @@ ghost use Rattle.stop_moves.specs.elimination_moves.Eliminate.{move_stop, move_a
 ghost use Rattle.stop_moves.specs.elimination_moves.Largest.{first_largest, in_order};
 ghost use Rattle.stop_moves.specs.Moves.{so_far, held_by, Waiting, Kept};
 
-use stop_moves::take_largest;
-
-use stop_moves::Move;
-use stop_moves::move_stop;
+use stop_moves::{Move, move_stop, take_largest};
 
 // Of the crates below, passed on to those above.
-pub use stop_moves::is_finite;
-pub use stop_moves::Vehicle;
-pub use stop_moves::has_soft_windows;
-pub use stop_moves::Pick;
-pub use stop_moves::next_pick;
-pub use stop_moves::route_cost_gain_floor;
-pub use stop_moves::constrained;
-pub use stop_moves::Counts;
-pub use stop_moves::LocalSearchNext;
-pub use stop_moves::Reduction;
-pub use stop_moves::worth;
-pub use stop_moves::Sum;
+pub use stop_moves::{
+    Counts, LocalSearchNext, Pick, Reduction, Sum, Vehicle, constrained, has_soft_windows,
+    is_finite, next_pick, route_cost_gain_floor, worth,
+};
 
 // The first stop with the largest demand of the m that are left goes to its place.
 fn move_next(

@@ -12,11 +12,7 @@ ghost use Rattle.drawn_moves.specs.perturbation.Parts.{Movable, Pair};
 use drawn_moves::try_move;
 
 // Of the crates below, passed on to those above.
-pub use drawn_moves::Vehicle;
-pub use drawn_moves::eject;
-pub use drawn_moves::draw;
-pub use drawn_moves::other_than;
-
+pub use drawn_moves::{Vehicle, draw, eject, other_than};
 
 // A move between routes a and b, from draw d on: where one of them is empty there is none. Returns the draws of the call so far.
 pub fn move_between(

@@ -12,7 +12,7 @@ use Rattle.ejection_search.specs.laws.Loops.{cond_rule, loop_rule}
 use Rattle.ejection_search.specs.laws.Searches.{and_first, and_second}
 use Rattle.ejection_search.specs.models.Problem.{Problem}
 use Rattle.ejection_search.specs.plan.Plan.{Plan, route, exchange_stops, exchange_tails, non_empty, occurs}
-use Rattle.ejection_search.proofs.of_plan.Exchanges.{length_exchange_stops, all_exchange_stops, occurs_exchange_stops, first_exchange_stops, second_exchange_stops, length_exchange_tails, all_exchange_tails, occurs_exchange_tails, first_exchange_tails, second_exchange_tails}
+use Rattle.ejection_search.specs.PlanExchanges.{length_exchange_stops, all_exchange_stops, occurs_exchange_stops, first_exchange_stops, second_exchange_stops, length_exchange_tails, all_exchange_tails, occurs_exchange_tails, first_exchange_tails, second_exchange_tails}
 use Rattle.ejection_search.specs.route_load.Feasible.{feasible}
 use Rattle.perturbation.specs.Perturb.{word, draw, draw_bool, stands, both_non_empty, try_exchange, try_tails, try_move, Drawn, move_between, other_than, move, perturb}
 

@@ -4,8 +4,4 @@
 pub mod draws;
 
 // Of the crates below, passed on to those above.
-pub use ejection_search::Vehicle;
-pub use ejection_search::within_capacity;
-pub use ejection_search::checked;
-pub use ejection_search::feasible;
-pub use ejection_search::eject;
+pub use ejection_search::{Vehicle, checked, eject, feasible, within_capacity};

@@ -9,17 +9,9 @@ ghost use Rattle.problem_checks.specs.models.Valid.{window_passes, penalty_passe
 use problem_checks::amounts::is_amount;
 
 // Of the crates below, passed on to those above.
-pub use problem_checks::TimeWindow;
-pub use problem_checks::Window;
-pub use problem_checks::RouteLimits;
-pub use problem_checks::Limit;
-pub use problem_checks::Rest;
-pub use problem_checks::Vehicle;
-pub use problem_checks::VehicleBreak;
-pub use problem_checks::amounts::amounts_pass;
-pub use problem_checks::amounts::break_passes;
-pub use problem_checks::amounts::vehicle_passes;
+pub use problem_checks::amounts::{amounts_pass, break_passes, vehicle_passes};
 pub use problem_checks::sizes::sizes_pass;
+pub use problem_checks::{Limit, Rest, RouteLimits, TimeWindow, Vehicle, VehicleBreak, Window};
 
 // Whether the window of place c, if it has one, is of two amounts.
 fn window_passes(c: usize, ready: &[f64], due: &[f64], flags: &[u8]) -> bool

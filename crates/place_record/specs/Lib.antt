@@ -3,3 +3,5 @@
 pub use Rattle.models.specs.laws as laws
 pub use Rattle.models.specs.floats as floats
 pub use Rattle.models.specs as models
+-- and their laws
+pub use Rattle.models.proofs.ValidLaws as ModelsValidLaws

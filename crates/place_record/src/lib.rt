@@ -7,19 +7,10 @@ ghost use Rattle.models.specs.Customer.{customers, Sized, window_at, penalty_at,
 use models::customer::TimeWindow;
 
 // Of the crates below, passed on to those above.
-pub use models::abs;
-pub use models::infinity;
-pub use models::is_finite;
-pub use models::max;
-pub use models::min;
-pub use models::total_less;
-pub use models::customer::Customer;
-pub use models::customer::Penalty;
-pub use models::customer::Window;
+pub use models::customer::{Customer, Penalty, Window};
 pub use models::limits::RouteLimits;
-pub use models::vehicle::Rest;
-pub use models::vehicle::Vehicle;
-pub use models::vehicle::VehicleBreak;
+pub use models::vehicle::{Rest, Vehicle, VehicleBreak};
+pub use models::{abs, infinity, is_finite, max, min, total_less};
 
 // The window of place `c`: bit 0 of its flags says whether it has one. A value whose flag is clear is not read.
 pub fn window_at(c: usize, ready: &[f64], due: &[f64], flags: &[u8]) -> Window

@@ -5,12 +5,7 @@ ghost use Rattle.std.specs.Prelude.{◌≡◌, ◌+◌, ◌-◌, ◌<◌, ◌≤
 ghost use Rattle.plan.specs.Plan.{Holds, Lent, HasPosition, HasStop, split, route, total, offset, put_in, take_out};
 
 // Of the crates below, passed on to those above.
-pub use cell_exchange::clear;
-pub use cell_exchange::copy_part;
-pub use cell_exchange::cut;
-pub use cell_exchange::insert_at;
-pub use cell_exchange::swap;
-pub use cell_exchange::swap_parts;
+pub use cell_exchange::{clear, copy_part, cut, insert_at, swap, swap_parts};
 
 // Where route k begins among the stops.
 pub fn offset(lengths: &[u16], k: usize) -> usize

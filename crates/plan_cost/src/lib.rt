@@ -7,14 +7,10 @@ ghost use Rattle.route_cost.specs.models.Problem.{matrix, of_distances, Stops};
 ghost use Rattle.route_cost.specs.plan.Plan.{Lent, split};
 ghost use Rattle.route_cost.specs.Route.{route_distance, cost};
 
-
 use route_cost::route_distance;
 
 // Of the crates below, passed on to those above.
-pub use route_cost::abs;
-pub use route_cost::Vehicle;
-pub use route_cost::has_soft_windows;
-pub use route_cost::copy_part;
+pub use route_cost::{Vehicle, abs, copy_part, has_soft_windows};
 
 // The distance of the route that stands from `at` to `end` among the stops.
 fn part_distance(

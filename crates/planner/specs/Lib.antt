@@ -24,3 +24,6 @@ pub use Rattle.minimization.specs.ejection_pool as ejection_pool
 pub use Rattle.minimization.specs as minimization
 pub use Rattle.elimination_moves.specs as elimination_moves
 pub use Rattle.entry.specs as entry
+-- and their laws
+pub use Rattle.entry.proofs.AdmittedLaws as EntryAdmittedLaws
+pub use Rattle.entry.proofs.EntryLaws as EntryEntryLaws

@@ -5,8 +5,5 @@
 pub mod calls;
 
 // Of the crates below, passed on to those above.
-pub use lateness_bound::Vehicle;
-pub use lateness_bound::route_worth_effective_cost;
-pub use lateness_bound::route_worth_route_eval;
-pub use lateness_bound::bound;
+pub use lateness_bound::{Vehicle, bound, route_worth_effective_cost, route_worth_route_eval};
 pub use minimization::copy_part;

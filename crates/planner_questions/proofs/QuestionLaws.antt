@@ -10,15 +10,15 @@ use Rattle.refusals.specs.models.declared.vehicle.VehicleBreak.{VehicleBreak}
 use Rattle.refusals.specs.models.declared.limits.RouteLimits.{RouteLimits}
 use Rattle.refusals.specs.models.RouteLimits.{limits_of}
 use Rattle.refusals.specs.models.Problem.{Problem, Fit, Stops, matrix, depot}
-use Rattle.refusals.proofs.of_models.ValidLaws.{valid_fit, valid_depot}
+use Rattle.refusals.specs.ModelsValidLaws.{valid_fit, valid_depot}
 use Rattle.refusals.specs.break_clock.declared.route_eval.Eval.{Eval}
 use Rattle.refusals.specs.break_clock.Schedule.{schedule}
 use Rattle.refusals.specs.evaluation.Check.{route_feasible}
 use Rattle.refusals.specs.route_cost.Route.{route_distance}
-use Rattle.refusals.proofs.of_local_search.ReadLaws.{distance_any}
+use Rattle.refusals.specs.LocalSearchReadLaws.{distance_any}
 use Rattle.refusals.specs.entry.Table.{refusal}
 use Rattle.refusals.specs.entry.Given.{numbered, route_inputs, schedule_inputs}
-use Rattle.refusals.proofs.of_entry.AdmittedLaws.{not_refused, route_accepted, schedule_accepted}
+use Rattle.refusals.specs.EntryAdmittedLaws.{not_refused, route_accepted, schedule_accepted}
 use Rattle.planner.specs.Calls.{refused, answered, unless_refused, public_route_feasible, public_schedule, public_route_distance}
 
 -- ---- the code's number and the answer

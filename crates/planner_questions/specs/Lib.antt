@@ -14,3 +14,6 @@ pub use Rattle.refusals.specs.local_search as local_search
 pub use Rattle.planner.specs.ejection_pool as ejection_pool
 pub use Rattle.refusals.specs.entry as entry
 pub use Rattle.planner.specs as planner
+-- and their laws
+pub use Rattle.refusals.specs.ModelsValidLaws as ModelsValidLaws
+pub use Rattle.refusals.specs.EntryAdmittedLaws as EntryAdmittedLaws

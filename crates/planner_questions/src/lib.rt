@@ -7,30 +7,17 @@ ghost use Rattle.refusals.specs.models.Problem.{problem};
 ghost use Rattle.planner.specs.Calls.{public_route_feasible, public_schedule, public_route_distance};
 ghost use Rattle.planner_questions.specs.Told.{checked_told, evaluated_told, number_told};
 
-
+use refusals::calls::schedule_refusal;
 use refusals::evaluation_check as check;
 
-
-use refusals::calls::schedule_refusal;
-
 // Of the crates below, passed on to those above.
-pub use refusals::TimeWindow;
-pub use refusals::Window;
-pub use refusals::RouteLimits;
-pub use refusals::Limit;
-pub use refusals::Rest;
-pub use refusals::Vehicle;
-pub use refusals::VehicleBreak;
-pub use refusals::Taken;
-pub use refusals::Eval;
-pub use refusals::RouteEval;
-pub use planner::route_worth_effective_cost;
-pub use planner::route_worth_route_eval;
-pub use planner::bound;
-pub use refusals::route_cost_gain_floor;
-pub use refusals::calls::problem_refusal;
-pub use refusals::calls::route_refusal;
 pub use planner::calls::Replied;
+pub use planner::{bound, route_worth_effective_cost, route_worth_route_eval};
+pub use refusals::calls::{problem_refusal, route_refusal};
+pub use refusals::{
+    Eval, Limit, Rest, RouteEval, RouteLimits, Taken, TimeWindow, Vehicle, VehicleBreak, Window,
+    route_cost_gain_floor,
+};
 
 // The answer yes or no, or the number of the refusal.
 #[derive(Clone, Copy)]

@@ -9,15 +9,11 @@ ghost use Rattle.pool_cost.specs.ejection_pool.Pool.{run_pool};
 ghost use Rattle.pool_cost.specs.ejection_pool.Running.{Running, state, allowance};
 ghost use Rattle.pool_attempt.specs.Judged.{tried, judged};
 
-
-
 use pool_cost::is_cheaper;
-use pool_emptying::empty_pool;
-use pool_emptying::Emptied;
+use pool_emptying::{Emptied, empty_pool};
 
 // Of the crates below, passed on to those above.
-pub use pool_cost::Vehicle;
-pub use pool_cost::Counts;
+pub use pool_cost::{Counts, Vehicle};
 
 // How an attempt ends: the plan is kept as it was, or the one without the route is accepted; with the counts of the call so far.
 #[derive(Clone, Copy)]

@@ -7,7 +7,7 @@ use Rattle.plan_cost.specs.models.Problem.{Problem, of_distances}
 use Rattle.plan_cost.specs.plan.Plan.{Plan}
 use Rattle.ejection_pool.specs.local_search.Options.{then_some}
 use Rattle.plan_cost.specs.route_cost.Route.{cost}
-use Rattle.ejection_pool.proofs.of_local_search.ReadLaws.{cost_any}
+use Rattle.ejection_pool.specs.LocalSearchReadLaws.{cost_any}
 use Rattle.pool_cost.specs.Attempt.{if_cheaper}
 
 pub cheaper_is : (cost v before a : Float) → v ≡ cost → a ≡ abs before → lt v (before ⊖ 1e-12 ⊗ a) ≡ lt cost (before ⊖ 1e-12 ⊗ abs before)

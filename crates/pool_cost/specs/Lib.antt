@@ -14,3 +14,6 @@ pub use Rattle.ejection_pool.specs.local_search as local_search
 pub use Rattle.ejection_pool.specs.quick_test as quick_test
 pub use Rattle.ejection_pool.specs.ejection_made as ejection_made
 pub use Rattle.ejection_pool.specs as ejection_pool
+-- and their laws
+pub use Rattle.ejection_pool.specs.LocalSearchNextLaws as LocalSearchNextLaws
+pub use Rattle.ejection_pool.specs.LocalSearchSearchLaws as LocalSearchSearchLaws

@@ -8,9 +8,7 @@ ghost use Rattle.pool_turns.specs.ejection_pool.Pool.{run_pool};
 ghost use Rattle.pool_turns.specs.ejection_pool.Running.{Running, state, allowance};
 ghost use Rattle.pool_turns.specs.Ends.{said};
 
-use pool_turns::Counts;
-use pool_turns::Vehicle;
-use pool_turns::empty_into;
+use pool_turns::{Counts, Vehicle, empty_into};
 
 // Of the crates below, passed on to those above.
 pub use pool_turns::Emptied;

@@ -11,15 +11,10 @@ ghost use Rattle.forced_insertion.specs.ejection_pool.Pool.{after_cheapest};
 ghost use Rattle.forced_insertion.specs.ejection_pool.Running.{Running, state};
 ghost use Rattle.forced_insertion.specs.Turned.{as_turn};
 
-use forced_insertion::force;
-use forced_insertion::place;
+use forced_insertion::{force, place};
 
 // Of the crates below, passed on to those above.
-pub use forced_insertion::Vehicle;
-pub use forced_insertion::Counts;
-pub use forced_insertion::Turn;
-
-
+pub use forced_insertion::{Counts, Turn, Vehicle};
 
 // One turn: the stop on top of the pool is popped and goes to its cheapest place, or, with one failure more, in for others.
 pub fn one_turn(

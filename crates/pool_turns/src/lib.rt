@@ -9,14 +9,10 @@ ghost use Rattle.pool_turn.specs.ejection_pool.Pool.{run_pool};
 ghost use Rattle.pool_turn.specs.ejection_pool.Running.{Running, state, allowance};
 ghost use Rattle.pool_turns.specs.Ends.{said};
 
-use pool_turn::Turn;
-
-
-use pool_turn::one_turn;
+use pool_turn::{Turn, one_turn};
 
 // Of the crates below, passed on to those above.
-pub use pool_turn::Vehicle;
-pub use pool_turn::Counts;
+pub use pool_turn::{Counts, Vehicle};
 
 // How an attempt ends: the pool is not emptied, or it is. With the counts of the call so far.
 #[derive(Clone, Copy)]

@@ -3,5 +3,3 @@
 pub mod SizeLaws
 -- row 2
 pub mod AmountLaws
--- crates below, passed on to those above
-pub use Rattle.models.proofs as of_models

@@ -2,3 +2,5 @@
 -- crates below, passed on to those above
 pub use Rattle.models.specs.laws as laws
 pub use Rattle.models.specs as models
+-- and their laws
+pub use Rattle.models.proofs.ValidLaws as ModelsValidLaws

@@ -3,9 +3,8 @@ ghost use Rattle.std.specs.Prelude.{◌≡◌};
 ghost use Rattle.models.specs.declared.vehicle.Rest.TheVariants.{Break};
 ghost use Rattle.models.specs.Valid.{is_amount, amounts_pass, limit_passes, rest_passes, cost_passes, vehicle_passes};
 
-use models::is_finite;
-use models::is_sign_negative;
 use models::vehicle::{Limit, Rest, Vehicle};
+use models::{is_finite, is_sign_negative};
 
 // Whether x is finite, has its sign bit clear, which -0.0 has not, and is at most 1e12.
 pub fn is_amount(x: f64) -> bool

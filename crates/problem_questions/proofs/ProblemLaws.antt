@@ -4,12 +4,12 @@ use mathlib.Core.Path.{◌≡◌}
 use mathlib.Core.List.{[]}
 use lib.Ieee.{Float}
 use Rattle.planner_questions.specs.models.Problem.{Problem, Fit, matrix}
-use Rattle.planner_questions.proofs.of_models.ValidLaws.{valid_fit}
+use Rattle.planner_questions.specs.ModelsValidLaws.{valid_fit}
 use Rattle.planner_questions.specs.lateness_bound.Bound.{lateness_bound}
 use Rattle.planner_questions.specs.route_cost.Route.{gain_floor}
 use Rattle.planner_questions.specs.entry.Table.{refusal}
 use Rattle.planner_questions.specs.entry.Given.{numbered, problem_inputs}
-use Rattle.planner_questions.proofs.of_entry.AdmittedLaws.{not_refused, problem_accepted}
+use Rattle.planner_questions.specs.EntryAdmittedLaws.{not_refused, problem_accepted}
 use Rattle.planner_questions.specs.planner.Calls.{refused, answered, public_lateness_bound, public_gain_floor}
 use Rattle.planner_questions.proofs.QuestionLaws.{refuses, answers}
 

@@ -6,17 +6,10 @@ ghost use Rattle.planner_questions.specs.models.Problem.{problem};
 ghost use Rattle.planner_questions.specs.planner.Calls.{public_lateness_bound, public_gain_floor, public_time_window_new};
 ghost use Rattle.planner_questions.specs.Told.{number_told};
 
-use planner_questions::bound;
-use planner_questions::TimeWindow;
-use planner_questions::Window;
-
-use planner_questions::Number;
-use planner_questions::problem_refusal;
+use planner_questions::{Number, TimeWindow, Window, bound, problem_refusal};
 
 // Of the crates below, passed on to those above.
-pub use planner_questions::Limit;
-pub use planner_questions::Rest;
-pub use planner_questions::Vehicle;
+pub use planner_questions::{Limit, Rest, Vehicle};
 
 // The bound on the lateness cost of a route.
 pub fn lateness_bound(

@@ -6,16 +6,11 @@ ghost use Rattle.problem_questions.specs.models.Problem.{problem};
 ghost use Rattle.same_answers.specs.stored_answers.Answers.{same_stored};
 ghost use Rattle.question_verdict.specs.Asked.{question};
 
-
 use route_asked::ask_of_route;
-use same_answers::same_stored;
-use same_answers::of_number;
-use same_answers::of_window;
+use same_answers::{of_number, of_window, same_stored};
 
 // Of the crates below, passed on to those above.
-pub use problem_questions::Limit;
-pub use problem_questions::Rest;
-pub use problem_questions::Vehicle;
+pub use problem_questions::{Limit, Rest, Vehicle};
 pub use same_answers::Stored;
 
 // The answer to a question. Two floats are the window that `time_window_new` is given.

@@ -8,41 +8,15 @@ ghost use Rattle.quick_test.specs.models.Problem.{matrix, Square, Fit, Stops};
 ghost use Rattle.quick_test.specs.Quick.{in_time, left_before, may_fit};
 ghost use Rattle.quick_test.specs.Parts.{leave, next_in_time};
 
-
-
-use quick_test::abs;
-use quick_test::max;
-use quick_test::prev_stop;
+use quick_test::{abs, max, prev_stop};
 
 // Of the crates below, passed on to those above.
-pub use quick_test::infinity;
-pub use quick_test::min;
-pub use quick_test::Window;
-pub use quick_test::Vehicle;
-pub use quick_test::customer_at;
-pub use quick_test::travel_time;
-pub use quick_test::Left;
-pub use quick_test::copy_part;
-pub use quick_test::offset;
-pub use quick_test::put_in;
-pub use quick_test::take_out;
-pub use quick_test::Pick;
-pub use quick_test::next_pick;
-pub use quick_test::RouteCostBest;
-pub use quick_test::Insertion;
-pub use quick_test::insertion_cost_insertion_cost;
-pub use quick_test::has_room;
-pub use quick_test::within_capacity;
-pub use quick_test::rounds;
-pub use quick_test::checked;
-pub use quick_test::constrained;
-pub use quick_test::feasible;
-pub use quick_test::trial_ok;
-pub use quick_test::Counts;
-pub use quick_test::LocalSearchNext;
-pub use quick_test::Reduction;
-pub use quick_test::leave;
-
+pub use quick_test::{
+    Counts, Insertion, Left, LocalSearchNext, Pick, Reduction, RouteCostBest, Vehicle, Window,
+    checked, constrained, copy_part, customer_at, feasible, has_room, infinity,
+    insertion_cost_insertion_cost, leave, min, next_pick, offset, put_in, rounds, take_out,
+    travel_time, trial_ok, within_capacity,
+};
 
 // Whether an arrival is by a bound, with room for rounding. A bound of -infinity makes a NaN, and the answer is no.
 fn in_time(arrival: f64, bound: f64) -> bool

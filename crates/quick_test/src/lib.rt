@@ -8,41 +8,15 @@ ghost use Rattle.insertion_cost.specs.models.Problem.{matrix, Fit};
 ghost use Rattle.quick_test.specs.Quick.{served_at};
 ghost use Rattle.quick_test.specs.Parts.{leave};
 
-
-
 use insertion_cost::Customer;
 
 // Of the crates below, passed on to those above.
-pub use insertion_cost::abs;
-pub use insertion_cost::infinity;
-pub use insertion_cost::max;
-pub use insertion_cost::min;
-pub use insertion_cost::Window;
-pub use insertion_cost::Vehicle;
-pub use insertion_cost::customer_at;
-pub use insertion_cost::travel_time;
-pub use insertion_cost::Left;
-pub use insertion_cost::copy_part;
-pub use insertion_cost::offset;
-pub use insertion_cost::put_in;
-pub use insertion_cost::take_out;
-pub use insertion_cost::Pick;
-pub use insertion_cost::next_pick;
-pub use insertion_cost::RouteCostBest;
-pub use insertion_cost::Insertion;
-pub use insertion_cost::insertion_cost as insertion_cost_insertion_cost;
-pub use insertion_cost::prev_stop;
-pub use insertion_cost::has_room;
-pub use insertion_cost::within_capacity;
-pub use insertion_cost::rounds;
-pub use insertion_cost::checked;
-pub use insertion_cost::constrained;
-pub use insertion_cost::feasible;
-pub use insertion_cost::trial_ok;
-pub use insertion_cost::Counts;
-pub use insertion_cost::LocalSearchNext;
-pub use insertion_cost::Reduction;
-
+pub use insertion_cost::{
+    Counts, Insertion, Left, LocalSearchNext, Pick, Reduction, RouteCostBest, Vehicle, Window, abs,
+    checked, constrained, copy_part, customer_at, feasible, has_room, infinity,
+    insertion_cost as insertion_cost_insertion_cost, max, min, next_pick, offset, prev_stop,
+    put_in, rounds, take_out, travel_time, trial_ok, within_capacity,
+};
 
 // When the service of a customer ends after `arrival`; missed once its window has closed, with a penalty or without.
 pub fn served_at(arrival: f64, customer: Customer) -> Left

@@ -7,10 +7,7 @@ ghost use Rattle.pair_move.specs.plan.Plan.{Holds, split, total};
 ghost use Rattle.pair_move.specs.perturbation.Perturb.{move};
 ghost use Rattle.pair_move.specs.perturbation.Parts.{Movable};
 
-use pair_move::Vehicle;
-use pair_move::move_between;
-use pair_move::draw;
-use pair_move::other_than;
+use pair_move::{Vehicle, draw, move_between, other_than};
 
 // Two routes are drawn, and a move between them tried. Returns the draws of the call so far.
 pub fn one_move(

@@ -7,16 +7,12 @@ ghost use Rattle.call_history.specs.models.Problem.{problem};
 ghost use Rattle.call_history.specs.call_words.Words.{buffers};
 ghost use Rattle.recorded_call.specs.Recording.{Next, Recorded};
 
-use call_history::{record_answer, record_slices};
-use call_history::words_at;
+use call_history::{record_answer, record_slices, words_at};
 use called::run_call;
 
 // Of the crates below, passed on to those above.
-pub use call_history::Vehicle;
-pub use called::minimise;
-pub use called::eliminate;
-pub use call_history::well_formed;
-
+pub use call_history::{Vehicle, well_formed};
+pub use called::{eliminate, minimise};
 
 // Call i, run and recorded. Its tape begins at `from`; the answer is where the next one begins.
 pub fn run_next(

@@ -9,7 +9,7 @@ use borrow.Author.Tests.{lt-ltb, le-ltb}
 use Rattle.place_checks.specs.laws.Searches.{every}
 use Rattle.place_checks.specs.models.Problem.{Problem, depot}
 use Rattle.place_checks.specs.models.Valid.{sizes_pass, values_pass, window_ordered, windows_pass}
-use Rattle.place_checks.proofs.of_models.ValidLaws.{sizes_demand, sizes_sized}
+use Rattle.place_checks.specs.ModelsValidLaws.{sizes_demand, sizes_sized}
 use Rattle.stop_checks.specs.plan.Plan.{Slices}
 use Rattle.stop_checks.specs.entry.Table.{Work, bad_lengths, stops_pass, is_empty, too_few}
 use Rattle.stop_checks.specs.entry.Given.{numbered}

@@ -9,3 +9,7 @@ pub use Rattle.stop_checks.specs.plan as plan
 pub use Rattle.stop_checks.specs.route_cost as route_cost
 pub use Rattle.stop_checks.specs.local_search as local_search
 pub use Rattle.stop_checks.specs.entry as entry
+-- and their laws
+pub use Rattle.place_checks.specs.ModelsValidLaws as ModelsValidLaws
+pub use Rattle.stop_checks.specs.LocalSearchReadLaws as LocalSearchReadLaws
+pub use Rattle.stop_checks.specs.EntryAdmittedLaws as EntryAdmittedLaws

@@ -10,30 +10,17 @@ ghost use Rattle.stop_checks.specs.entry.Table.{Work};
 ghost use Rattle.stop_checks.specs.entry.Given.{numbered};
 ghost use Rattle.stop_checks.specs.entry.Rows.{problem_rows, route_rows, plan_rows, work_rows, minimise_rows};
 
-use stop_checks::bad_lengths;
-
-use place_checks::{places_pass, windows_pass};
-use place_checks::amounts_pass;
-use place_checks::vehicle_passes;
-use place_checks::sizes_pass;
-use stop_checks::stops_pass;
+use place_checks::{amounts_pass, places_pass, sizes_pass, vehicle_passes, windows_pass};
+use stop_checks::{bad_lengths, stops_pass};
 
 // Of the crates below, passed on to those above.
-pub use place_checks::TimeWindow;
-pub use place_checks::Window;
-pub use place_checks::RouteLimits;
-pub use place_checks::Limit;
-pub use place_checks::Rest;
-pub use place_checks::Vehicle;
-pub use place_checks::VehicleBreak;
-pub use stop_checks::Taken;
-pub use stop_checks::Eval;
-pub use stop_checks::RouteEval;
-pub use stop_checks::break_schedule_schedule;
-pub use stop_checks::evaluation_check;
-pub use stop_checks::route_cost_gain_floor;
-pub use stop_checks::route_cost_route_distance;
-pub use place_checks::break_passes;
+pub use place_checks::{
+    Limit, Rest, RouteLimits, TimeWindow, Vehicle, VehicleBreak, Window, break_passes,
+};
+pub use stop_checks::{
+    Eval, RouteEval, Taken, break_schedule_schedule, evaluation_check, route_cost_gain_floor,
+    route_cost_route_distance,
+};
 
 // Whether row 2 lets the problem pass, where row 1 does.
 fn values_pass(

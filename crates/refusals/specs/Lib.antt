@@ -9,3 +9,7 @@ pub use Rattle.refusal_rows.specs.plan as plan
 pub use Rattle.refusal_rows.specs.route_cost as route_cost
 pub use Rattle.refusal_rows.specs.local_search as local_search
 pub use Rattle.refusal_rows.specs.entry as entry
+-- and their laws
+pub use Rattle.refusal_rows.specs.ModelsValidLaws as ModelsValidLaws
+pub use Rattle.refusal_rows.specs.LocalSearchReadLaws as LocalSearchReadLaws
+pub use Rattle.refusal_rows.specs.EntryAdmittedLaws as EntryAdmittedLaws

@@ -5,10 +5,10 @@ ghost use Rattle.refusal_rows.specs.plan.Plan.{Slices};
 ghost use Rattle.refusal_rows.specs.entry.Table.{Work, refusal};
 ghost use Rattle.refusal_rows.specs.entry.Given.{numbered, problem_inputs, route_inputs, schedule_inputs, eliminate_inputs, minimise_inputs};
 
-use refusal_rows::Vehicle;
-use refusal_rows::VehicleBreak;
-use refusal_rows::break_passes;
-use refusal_rows::{minimise_rows, plan_rows, problem_rows, route_rows, work_rows};
+use refusal_rows::{
+    Vehicle, VehicleBreak, break_passes, minimise_rows, plan_rows, problem_rows, route_rows,
+    work_rows,
+};
 
 // A call that is given the problem alone: rows 1 to 4.
 pub fn problem_refusal(

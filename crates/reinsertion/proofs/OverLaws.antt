@@ -18,10 +18,11 @@ use Rattle.reinsertion_candidates.specs.route_cost.declared.Insertion.{Insertion
 use Rattle.reinsertion_candidates.specs.route_cost.declared.Best.{Best}
 use Rattle.reinsertion_candidates.specs.route_cost.declared.Best.TheVariants.{Nothing, At}
 use Rattle.reinsertion_candidates.specs.route_cost.Route.{chosen}
-use Rattle.reinsertion_candidates.proofs.of_route_cost.VisitLaws.{Visiting, visit_start, part_is, visit_more, visit_laws}
+use Rattle.reinsertion_candidates.specs.RouteCostVisitLaws.{Visiting, visit_start, part_is, visit_more, visit_laws}
 use Rattle.reinsertion_candidates.specs.declared.Move.{Move}
 use Rattle.reinsertion_candidates.specs.Candidates.{candidates, by_cost, first_passing}
-use Rattle.reinsertion_candidates.specs.Place.{look_through, look_over, unless_cut, place_is}
+use Rattle.reinsertion_candidates.specs.Place.{look_through, look_over, unless_cut}
+use Rattle.reinsertion_candidates.proofs.PlaceIs.{place_is}
 use Rattle.reinsertion_candidates.specs.Asked.{Asked, Room}
 
 -- a part is as long as its bounds say, at the most

@@ -19,7 +19,7 @@ use Rattle.reinsertion_candidates.specs.route_cost.declared.Insertion.{Insertion
 use Rattle.reinsertion_candidates.specs.route_cost.declared.Best.{Best}
 use Rattle.reinsertion_candidates.specs.route_cost.Route.{chosen}
 use Rattle.reinsertion_candidates.specs.route_load.Feasible.{has_room}
-use Rattle.reinsertion_candidates.proofs.of_local_search.ReadLaws.{room_any}
+use Rattle.reinsertion_candidates.specs.LocalSearchReadLaws.{room_any}
 use Rattle.reinsertion_candidates.specs.declared.Move.{Move}
 use Rattle.reinsertion_candidates.specs.reinsertion_worth.Worth.{worth, insertion_worth, current}
 use Rattle.reinsertion_candidates.specs.Place.{counts, comes_first, settles, look_at, look_through}

@@ -10,3 +10,11 @@ pub use Rattle.reinsertion_candidates.specs.route_load as route_load
 pub use Rattle.reinsertion_candidates.specs.local_search as local_search
 pub use Rattle.reinsertion_candidates.specs.reinsertion_worth as reinsertion_worth
 pub use Rattle.reinsertion_candidates.specs as reinsertion_candidates
+-- and their laws
+pub use Rattle.reinsertion_candidates.specs.RouteCostVisitLaws as RouteCostVisitLaws
+pub use Rattle.reinsertion_candidates.specs.RouteLoadFeasibleLaws as RouteLoadFeasibleLaws
+pub use Rattle.reinsertion_candidates.specs.LocalSearchNextLaws as LocalSearchNextLaws
+pub use Rattle.reinsertion_candidates.specs.LocalSearchRoundLaws as LocalSearchRoundLaws
+pub use Rattle.reinsertion_candidates.specs.LocalSearchSearchLaws as LocalSearchSearchLaws
+pub use Rattle.reinsertion_candidates.specs.ReinsertionWorthWorthLaws as ReinsertionWorthWorthLaws
+pub use Rattle.reinsertion_candidates.proofs.PlaceIs as ReinsertionCandidatesPlaceIs

@@ -12,30 +12,15 @@ ghost use Rattle.reinsertion_candidates.specs.Candidates.{candidates, by_cost, f
 ghost use Rattle.reinsertion_candidates.specs.Place.{look_at, look_through, look_over};
 ghost use Rattle.reinsertion_candidates.specs.Asked.{Asked, Looked, Room};
 
-
-use reinsertion_candidates::leads;
-use reinsertion_candidates::settles;
-use reinsertion_candidates::current;
-use reinsertion_candidates::insertion_worth;
-use reinsertion_candidates::RouteCostBest as Best;
-use reinsertion_candidates::Insertion;
-use reinsertion_candidates::has_room;
+use reinsertion_candidates::{
+    Insertion, RouteCostBest as Best, current, has_room, insertion_worth, leads, settles,
+};
 
 // Of the crates below, passed on to those above.
-pub use reinsertion_candidates::is_finite;
-pub use reinsertion_candidates::Vehicle;
-pub use reinsertion_candidates::has_soft_windows;
-pub use reinsertion_candidates::put_in;
-pub use reinsertion_candidates::Pick;
-pub use reinsertion_candidates::next_pick;
-pub use reinsertion_candidates::RouteCostBest;
-pub use reinsertion_candidates::route_cost_gain_floor;
-pub use reinsertion_candidates::constrained;
-pub use reinsertion_candidates::Counts;
-pub use reinsertion_candidates::LocalSearchNext;
-pub use reinsertion_candidates::Reduction;
-pub use reinsertion_candidates::worth;
-pub use reinsertion_candidates::Move;
+pub use reinsertion_candidates::{
+    Counts, LocalSearchNext, Move, Pick, Reduction, RouteCostBest, Vehicle, constrained,
+    has_soft_windows, is_finite, next_pick, put_in, route_cost_gain_floor, worth,
+};
 
 // One position of route k, which has room for the stop: the better of what it gives and the best so far.
 fn look_at(

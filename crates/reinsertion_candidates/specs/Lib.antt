@@ -15,3 +15,11 @@ pub use Rattle.reinsertion_worth.specs.route_cost as route_cost
 pub use Rattle.reinsertion_worth.specs.route_load as route_load
 pub use Rattle.reinsertion_worth.specs.local_search as local_search
 pub use Rattle.reinsertion_worth.specs as reinsertion_worth
+-- and their laws
+pub use Rattle.reinsertion_worth.specs.RouteCostVisitLaws as RouteCostVisitLaws
+pub use Rattle.reinsertion_worth.specs.RouteLoadFeasibleLaws as RouteLoadFeasibleLaws
+pub use Rattle.reinsertion_worth.specs.LocalSearchNextLaws as LocalSearchNextLaws
+pub use Rattle.reinsertion_worth.specs.LocalSearchReadLaws as LocalSearchReadLaws
+pub use Rattle.reinsertion_worth.specs.LocalSearchRoundLaws as LocalSearchRoundLaws
+pub use Rattle.reinsertion_worth.specs.LocalSearchSearchLaws as LocalSearchSearchLaws
+pub use Rattle.reinsertion_worth.proofs.WorthLaws as ReinsertionWorthWorthLaws

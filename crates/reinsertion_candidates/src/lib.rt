@@ -9,30 +9,14 @@ ghost use Rattle.reinsertion_worth.specs.route_cost.Route.{chosen};
 ghost use Rattle.reinsertion_candidates.specs.Place.{comes_first, settles};
 ghost use Rattle.reinsertion_candidates.specs.Asked.{Looked};
 
-use reinsertion_worth::total_less;
-use reinsertion_worth::trial_ok;
-
-use reinsertion_worth::RouteCostBest as Best;
+use reinsertion_worth::{RouteCostBest as Best, total_less, trial_ok};
 
 // Of the crates below, passed on to those above.
-pub use reinsertion_worth::is_finite;
-pub use reinsertion_worth::Vehicle;
-pub use reinsertion_worth::has_soft_windows;
-pub use reinsertion_worth::cut;
-pub use reinsertion_worth::put_in;
-pub use reinsertion_worth::Pick;
-pub use reinsertion_worth::next_pick;
-pub use reinsertion_worth::RouteCostBest;
-pub use reinsertion_worth::Insertion;
-pub use reinsertion_worth::route_cost_gain_floor;
-pub use reinsertion_worth::has_room;
-pub use reinsertion_worth::constrained;
-pub use reinsertion_worth::Counts;
-pub use reinsertion_worth::LocalSearchNext;
-pub use reinsertion_worth::Reduction;
-pub use reinsertion_worth::current;
-pub use reinsertion_worth::insertion_worth;
-pub use reinsertion_worth::worth;
+pub use reinsertion_worth::{
+    Counts, Insertion, LocalSearchNext, Pick, Reduction, RouteCostBest, Vehicle, constrained,
+    current, cut, has_room, has_soft_windows, insertion_worth, is_finite, next_pick, put_in,
+    route_cost_gain_floor, worth,
+};
 
 // A stop c that is to be moved: what was added to the worth of the other routes so far, what is saved, whether a window is soft and whether
 // the check is needed.

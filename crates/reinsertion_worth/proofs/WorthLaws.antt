@@ -17,7 +17,7 @@ use Rattle.route_worth.specs.models.Customer.{Customers}
 use Rattle.route_worth.specs.models.Problem.{DistanceMatrix, Problem, Stops, depot}
 use Rattle.route_worth.specs.evaluation.Eval.{effective_cost}
 use Rattle.insertion_cost.specs.route_cost.Route.{route_distance, insertion_cost}
-use Rattle.insertion_cost.proofs.of_local_search.ReadLaws.{distance_any, insertion_any}
+use Rattle.insertion_cost.specs.LocalSearchReadLaws.{distance_any, insertion_any}
 use Rattle.reinsertion_worth.specs.Worth.{soft, worth, insertion_worth, current}
 
 -- ---- a route, with a soft window and without one

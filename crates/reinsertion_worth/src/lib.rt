@@ -11,32 +11,17 @@ ghost use Rattle.route_worth.specs.evaluation.Check.{has_soft_windows};
 ghost use Rattle.route_worth.specs.evaluation.Eval.{effective_cost};
 ghost use Rattle.reinsertion_worth.specs.Worth.{worth, insertion_worth, current};
 
-use insertion_cost::insert_at;
-use insertion_cost::copy_part;
-use insertion_cost::insertion_cost;
-use route_worth::RouteLimits;
-
-use insertion_cost::route_cost_route_distance as route_distance;
-use route_worth::effective_cost;
+use insertion_cost::{
+    copy_part, insert_at, insertion_cost, route_cost_route_distance as route_distance,
+};
+use route_worth::{RouteLimits, effective_cost};
 
 // Of the crates below, passed on to those above.
-pub use route_worth::is_finite;
-pub use route_worth::total_less;
-pub use route_worth::Vehicle;
-pub use route_worth::has_soft_windows;
-pub use insertion_cost::cut;
-pub use insertion_cost::put_in;
-pub use insertion_cost::Pick;
-pub use insertion_cost::next_pick;
-pub use insertion_cost::RouteCostBest;
-pub use insertion_cost::Insertion;
-pub use insertion_cost::route_cost_gain_floor;
-pub use insertion_cost::has_room;
-pub use insertion_cost::constrained;
-pub use insertion_cost::trial_ok;
-pub use insertion_cost::Counts;
-pub use insertion_cost::LocalSearchNext;
-pub use insertion_cost::Reduction;
+pub use insertion_cost::{
+    Counts, Insertion, LocalSearchNext, Pick, Reduction, RouteCostBest, constrained, cut, has_room,
+    next_pick, put_in, route_cost_gain_floor, trial_ok,
+};
+pub use route_worth::{Vehicle, has_soft_windows, is_finite, total_less};
 
 // What a route is worth.
 pub fn worth(

@@ -2,19 +2,10 @@
 // ready, due, penalty, distances, times, lengths and stops, the number of calls, and the calls (crate replayed_calls). Floats stand by their bits, demand and
 // capacity by their two's complement of 32 bits. The vehicle is capacity, depot, fixed cost, cost per distance, and after a 0 or 1 that says whether it is
 // there the distance limit, the duration limit and the break (earliest, latest, duration); a value that is not there is 0.
-use replayed_calls::Limit;
-use replayed_calls::Rest;
-use replayed_calls::Vehicle;
-use replayed_calls::call_at;
-use replayed_calls::read_f64;
-use replayed_calls::read_i32;
-use replayed_calls::read_u8;
-use replayed_calls::read_u16;
-use replayed_calls::FAULT;
-use replayed_calls::stored_number as number;
-use replayed_calls::number_to;
-use replayed_calls::float_of;
-use replayed_calls::int_of;
+use replayed_calls::{
+    FAULT, Limit, Rest, Vehicle, call_at, float_of, int_of, number_to, read_f64, read_i32, read_u8,
+    read_u16, stored_number as number,
+};
 
 // A limit, and the position after it.
 #[derive(Clone, Copy)]

@@ -7,13 +7,9 @@ ghost use Rattle.std.specs.Prelude.{◌≡◌, length};
 mod cases;
 
 use cases::case_at;
-use replayed_calls::FAULT;
-use replayed_calls::at_end;
-use replayed_calls::stored_number as number;
-use replayed_calls::print_fault;
-use replayed_calls::print_misfit;
-use replayed_calls::print_tally;
-use replayed_calls::print_too_long;
+use replayed_calls::{
+    FAULT, at_end, print_fault, print_misfit, print_tally, print_too_long, stored_number as number,
+};
 
 // Replays the cases of a text.
 fn replay(text: &[u8]) {

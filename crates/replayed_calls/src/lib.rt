@@ -7,32 +7,17 @@
 ghost use Rattle.std.specs.Prelude.{◌≡◌, ◌<◌, length};
 
 use change_verdict::change_agrees;
-
-use question_verdict::question_agrees;
+use question_verdict::{Stored, question_agrees};
 use stored::slices::read_u64;
 use stored::text::number;
-use question_verdict::Stored;
-
 use tally::note;
 
 // Of the crates below, passed on to those above.
-pub use question_verdict::Limit;
-pub use question_verdict::Rest;
-pub use question_verdict::Vehicle;
-pub use stored::float_of;
-pub use stored::int_of;
-pub use stored::slices::read_f64;
-pub use stored::slices::read_i32;
-pub use stored::slices::read_u16;
-pub use stored::slices::read_u8;
-pub use stored::text::FAULT;
-pub use stored::text::at_end;
-pub use stored::text::number as stored_number;
-pub use stored::text::number_to;
-pub use tally::print_fault;
-pub use tally::print_misfit;
-pub use tally::print_tally;
-pub use tally::print_too_long;
+pub use question_verdict::{Limit, Rest, Vehicle};
+pub use stored::slices::{read_f64, read_i32, read_u8, read_u16};
+pub use stored::text::{FAULT, at_end, number as stored_number, number_to};
+pub use stored::{float_of, int_of};
+pub use tally::{print_fault, print_misfit, print_tally, print_too_long};
 
 // An answer, and the position after it.
 #[derive(Clone, Copy)]

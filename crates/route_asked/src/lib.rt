@@ -5,9 +5,8 @@ ghost use Rattle.std.specs.Prelude.{◌≡◌};
 ghost use Rattle.worth_questions.specs.models.Problem.{problem};
 ghost use Rattle.route_asked.specs.RouteAsked.{route_question};
 
-use worth_questions::Vehicle;
-use worth_questions::VehicleBreak;
 use stored_answers::{Stored, of_checked, of_evaluated, of_number};
+use worth_questions::{Vehicle, VehicleBreak};
 
 // The answer to a question about a route. Three floats are the break that `schedule` is given.
 pub fn ask_of_route(

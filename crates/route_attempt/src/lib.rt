@@ -12,11 +12,8 @@ ghost use Rattle.route_without.specs.pool_attempt.Judged.{tried};
 ghost use Rattle.route_without.specs.Attempting.{Attempting};
 ghost use Rattle.route_attempt.specs.Leaves.{Leaves};
 
-use route_without::Counts;
-use route_without::Vehicle;
 use plan_copy::{restore, save};
-
-use route_without::try_without;
+use route_without::{Counts, Vehicle, try_without};
 
 // Of the crates below, passed on to those above.
 pub use plan_copy::drop_empty;

@@ -7,50 +7,16 @@ ghost use Rattle.evaluation.specs.models.Customer.{windowed};
 ghost use Rattle.evaluation.specs.Check.{soft, has_time_windows, has_soft_windows, route_checks_needed};
 
 // Of the crates below, passed on to those above.
-pub use evaluation::abs;
-pub use evaluation::infinity;
-pub use evaluation::is_finite;
-pub use evaluation::max;
-pub use evaluation::min;
-pub use evaluation::total_less;
-pub use evaluation::Customer;
-pub use evaluation::Penalty;
-pub use evaluation::Window;
-pub use evaluation::RouteLimits;
-pub use evaluation::Rest;
-pub use evaluation::Vehicle;
-pub use evaluation::VehicleBreak;
-pub use evaluation::customer_at;
-pub use evaluation::penalty_at;
-pub use evaluation::window_at;
-pub use evaluation::get;
-pub use evaluation::largest;
-pub use evaluation::scale;
-pub use evaluation::travel_time;
-pub use evaluation::Served;
-pub use evaluation::Taken;
-pub use evaluation::serve_at;
-pub use evaluation::Eval;
-pub use evaluation::RouteEval;
-pub use evaluation::Ridden;
-pub use evaluation::Riding;
-pub use evaluation::ride_all;
-pub use evaluation::ride_home;
-pub use evaluation::break_schedule_schedule;
-pub use evaluation::check as evaluation_check;
-pub use evaluation::check::Left;
-pub use evaluation::check::Reached;
-pub use evaluation::check::Way;
-pub use evaluation::check::home_allowed;
-pub use evaluation::check::reach;
-pub use evaluation::check::reach_all;
-pub use evaluation::check::route_feasible as evaluation_route_feasible;
-pub use evaluation::eval::Walk;
-pub use evaluation::eval::Walked;
-pub use evaluation::eval::is_feasible;
-pub use evaluation::eval::limited;
-
-
+pub use evaluation::check::{
+    Left, Reached, Way, home_allowed, reach, reach_all, route_feasible as evaluation_route_feasible,
+};
+pub use evaluation::eval::{Walk, Walked, is_feasible, limited};
+pub use evaluation::{
+    Customer, Eval, Penalty, Rest, Ridden, Riding, RouteEval, RouteLimits, Served, Taken, Vehicle,
+    VehicleBreak, Window, abs, break_schedule_schedule, check as evaluation_check, customer_at,
+    get, infinity, is_finite, largest, max, min, penalty_at, ride_all, ride_home, scale, serve_at,
+    total_less, travel_time, window_at,
+};
 
 // Whether a place's flags say that it has a window.
 fn is_windowed(flag: u8) -> bool

@@ -10,3 +10,7 @@ pub use Rattle.evaluation_laws.specs.labels as labels
 pub use Rattle.evaluation_laws.specs.break_clock as break_clock
 pub use Rattle.evaluation_laws.specs.evaluation as evaluation
 pub use Rattle.plan.specs as plan
+-- and their laws
+pub use Rattle.evaluation_laws.specs.ModelsValidLaws as ModelsValidLaws
+pub use Rattle.evaluation_laws.specs.BreakClockStopLaws as BreakClockStopLaws
+pub use Rattle.evaluation_laws.proofs.Agreement as EvaluationLawsAgreement

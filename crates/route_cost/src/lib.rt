@@ -9,27 +9,11 @@ ghost use Rattle.route_cost.specs.Route.{route_distance, gain_floor};
 use evaluation_laws::scale;
 
 // Of the crates below, passed on to those above.
-pub use evaluation_laws::abs;
-pub use evaluation_laws::infinity;
-pub use evaluation_laws::max;
-pub use evaluation_laws::min;
-pub use evaluation_laws::Customer;
-pub use evaluation_laws::Window;
-pub use evaluation_laws::RouteLimits;
-pub use evaluation_laws::Vehicle;
-pub use evaluation_laws::customer_at;
-pub use evaluation_laws::get;
-pub use evaluation_laws::travel_time;
-pub use evaluation_laws::Taken;
-pub use evaluation_laws::Eval;
-pub use evaluation_laws::RouteEval;
-pub use evaluation_laws::break_schedule_schedule;
-pub use evaluation_laws::evaluation_check;
-pub use evaluation_laws::Left;
-pub use evaluation_laws::evaluation_route_feasible;
-pub use evaluation_laws::has_soft_windows;
-pub use evaluation_laws::route_checks_needed;
-pub use evaluation_laws::trial_feasible;
+pub use evaluation_laws::{
+    Customer, Eval, Left, RouteEval, RouteLimits, Taken, Vehicle, Window, abs,
+    break_schedule_schedule, customer_at, evaluation_check, evaluation_route_feasible, get,
+    has_soft_windows, infinity, max, min, route_checks_needed, travel_time, trial_feasible,
+};
 pub use plan::copy_part;
 
 // An insertion that a search has found: what it costs, the route, the position.

@@ -6,36 +6,14 @@ ghost use Rattle.trial_route.specs.models.Customer.{customers};
 ghost use Rattle.trial_route.specs.models.Problem.{matrix, Square, Fit, Stops};
 ghost use Rattle.trial_route.specs.evaluation.Eval.{drive, drive_all, home};
 
-use trial_route::RouteEval;
-use trial_route::get;
-use trial_route::travel_time;
-
-use trial_route::Served;
-use trial_route::Taken;
-use trial_route::serve_at;
-
-use trial_route::customer_at;
+use trial_route::{RouteEval, Served, Taken, customer_at, get, serve_at, travel_time};
 
 // Of the crates below, passed on to those above.
-pub use trial_route::infinity;
-pub use trial_route::is_finite;
-pub use trial_route::max;
-pub use trial_route::total_less;
-pub use trial_route::Penalty;
-pub use trial_route::Window;
-pub use trial_route::RouteLimits;
-pub use trial_route::Rest;
-pub use trial_route::Vehicle;
-pub use trial_route::VehicleBreak;
-pub use trial_route::penalty_at;
-pub use trial_route::window_at;
-pub use trial_route::largest;
-pub use trial_route::Eval;
-pub use trial_route::break_schedule_schedule;
-pub use trial_route::Walk;
-pub use trial_route::Walked;
-pub use trial_route::limited;
-pub use trial_route::has_soft_windows;
+pub use trial_route::{
+    Eval, Penalty, Rest, RouteLimits, Vehicle, VehicleBreak, Walk, Walked, Window,
+    break_schedule_schedule, has_soft_windows, infinity, is_finite, largest, limited, max,
+    penalty_at, total_less, window_at,
+};
 
 // The drive to the next stop and the service there.
 pub fn drive(

@@ -6,19 +6,10 @@ ghost use Rattle.ejection_positions.specs.models.Problem.{problem};
 ghost use Rattle.ejection_positions.specs.ejection.Eject.{chosen, try_out, try_one, try_two_from, try_two};
 ghost use Rattle.ejection_positions.specs.ejection.Asked.{Sought};
 
-use ejection_positions::EjectionBest as Best;
-use ejection_positions::fails_more;
-use ejection_positions::failure_sum;
-use ejection_positions::keep;
-use ejection_positions::{Out, try_left};
+use ejection_positions::{EjectionBest as Best, Out, fails_more, failure_sum, keep, try_left};
 
 // Of the crates below, passed on to those above.
-pub use ejection_positions::Vehicle;
-pub use ejection_positions::within_capacity;
-pub use ejection_positions::checked;
-pub use ejection_positions::feasible;
-pub use ejection_positions::EjectionBest;
-
+pub use ejection_positions::{EjectionBest, Vehicle, checked, feasible, within_capacity};
 
 // The stops at i and j leave route k: first their failures alone, then what is kept.
 fn try_out(

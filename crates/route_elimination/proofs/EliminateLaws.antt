@@ -14,8 +14,8 @@ use Rattle.elimination_round.specs.local_search.declared.rounds.Next.TheVariants
 use Rattle.elimination_round.specs.local_search.Rounds.{reduce, try_each}
 use Rattle.elimination_round.specs.local_search.Reduced.{Bounded}
 use Rattle.elimination_round.specs.local_search.Search.{but_last, NextLeaves, Answers, tried_next, uncounted, left_with}
-use Rattle.elimination_round.proofs.of_local_search.RoundLaws.{rounds_of}
-use Rattle.elimination_round.proofs.of_local_search.SearchLaws.{Rounding, Trying, trying_whole, trying_few, trying_routes_few, trying_planned, refused, taken, after_kept, after_accepted}
+use Rattle.elimination_round.specs.LocalSearchRoundLaws.{rounds_of}
+use Rattle.elimination_round.specs.LocalSearchSearchLaws.{Rounding, Trying, trying_whole, trying_few, trying_routes_few, trying_planned, refused, taken, after_kept, after_accepted}
 use Rattle.elimination_round.specs.elimination_moves.Eliminate.{attempt, eliminate_routes}
 use Rattle.elimination_round.specs.Eliminating.{Eliminating}
 use Rattle.elimination_round.specs.elimination_moves.Eliminated.{attempt_reduces}

@@ -9,19 +9,13 @@ ghost use Rattle.elimination_round.specs.local_search.Search.{Answers, uncounted
 ghost use Rattle.elimination_round.specs.elimination_moves.Eliminate.{eliminate_routes};
 ghost use Rattle.elimination_round.specs.Eliminating.{Eliminating};
 
-use elimination_round::try_next;
-use elimination_round::constrained;
-use elimination_round::LocalSearchNext as Next;
-
-use elimination_round::has_soft_windows;
-use elimination_round::route_cost_gain_floor as gain_floor;
-use elimination_round::Pick;
-use elimination_round::drop_empty;
+use elimination_round::{
+    LocalSearchNext as Next, Pick, constrained, drop_empty, has_soft_windows,
+    route_cost_gain_floor as gain_floor, try_next,
+};
 
 // Of the crates below, passed on to those above.
-pub use elimination_round::Vehicle;
-pub use elimination_round::Counts;
-pub use elimination_round::Reduction;
+pub use elimination_round::{Counts, Reduction, Vehicle};
 
 // `eliminate_routes`: rounds of attempts, begun again from the shortest route as soon as one is accepted. How many routes are left.
 pub fn eliminate_routes(

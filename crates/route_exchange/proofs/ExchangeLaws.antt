@@ -9,8 +9,8 @@ use mir.Val.{Fits}
 use Rattle.exchanged_stops.specs.laws.Exchanges.{swap_parts}
 use Rattle.exchanged_stops.specs.plan.Plan.{Plan, Holds, Lent, HasPosition, split, total, offset, exchange_tails}
 use Rattle.exchanged_stops.specs.plan.Slices.{route_within, route_before, position_within, position_route}
-use Rattle.exchanged_stops.proofs.of_plan.Exchanges.{exchange_tails_slices, exchange_tails_comm}
-use Rattle.exchanged_stops.proofs.of_plan.PlanLaws.{position_upto, position_fits, position_length_fits, end_fits}
+use Rattle.exchanged_stops.specs.PlanExchanges.{exchange_tails_slices, exchange_tails_comm}
+use Rattle.exchanged_stops.specs.PlanPlanLaws.{position_upto, position_fits, position_length_fits, end_fits}
 
 -- ---- two routes a and b, and what `offset` says of them
 

@@ -2,3 +2,6 @@
 -- crates below, passed on to those above
 pub use Rattle.exchanged_stops.specs.laws as laws
 pub use Rattle.exchanged_stops.specs.plan as plan
+-- and their laws
+pub use Rattle.exchanged_stops.specs.PlanExchanges as PlanExchanges
+pub use Rattle.exchanged_stops.specs.PlanPlanLaws as PlanPlanLaws

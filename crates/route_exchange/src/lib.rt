@@ -5,12 +5,7 @@ ghost use Rattle.std.specs.Prelude.{◌≡◌, ◌≤◌, ◌<◌, length};
 ghost use Rattle.exchanged_stops.specs.plan.Plan.{Holds, Lent, HasPosition, split, total, exchange_tails};
 
 // Of the crates below, passed on to those above.
-pub use exchanged_stops::clear;
-pub use exchanged_stops::copy_part;
-pub use exchanged_stops::cut;
-pub use exchanged_stops::offset;
-
-
+pub use exchanged_stops::{clear, copy_part, cut, offset};
 
 // The tail of route a from i and the tail of route b from j, a later one, are exchanged.
 fn exchange_in_order(

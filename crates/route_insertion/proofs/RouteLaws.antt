@@ -12,7 +12,7 @@ use Rattle.insertion.specs.models.declared.vehicle.Vehicle.{Vehicle}
 use Rattle.insertion.specs.models.Problem.{Problem, problem, of_demand}
 use Rattle.insertion.specs.route_cost.declared.Insertion.{Insertion}
 use Rattle.insertion.specs.route_load.Feasible.{has_room}
-use Rattle.insertion.proofs.of_local_search.ReadLaws.{room_any}
+use Rattle.insertion.specs.LocalSearchReadLaws.{room_any}
 use Rattle.insertion.specs.quick_test.Quick.{Times, times as times-along}
 use Rattle.insertion.specs.route_times.Prepared.{held, Prepared, prepared_missed, prepared_read, prepared_any}
 use Rattle.insertion.specs.Cheapest.{try_position, try_positions, try_route}

@@ -13,17 +13,10 @@ ghost use Rattle.insertion.specs.route_times.Prepared.{held};
 ghost use Rattle.insertion.specs.Cheapest.{try_route};
 ghost use Rattle.insertion.specs.Pass.{pass_position};
 
-use insertion::try_position;
-
-use insertion::RouteCostBest as Best;
-use insertion::has_room;
-use insertion::prepare;
+use insertion::{RouteCostBest as Best, has_room, prepare, try_position};
 
 // Of the crates below, passed on to those above.
-pub use insertion::Vehicle;
-pub use insertion::put_in;
-pub use insertion::RouteCostBest;
-pub use insertion::Counts;
+pub use insertion::{Counts, RouteCostBest, Vehicle, put_in};
 
 // Every position of route k, which has room for c, its end too.
 fn try_positions(

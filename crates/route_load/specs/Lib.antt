@@ -11,3 +11,7 @@ pub use Rattle.route_cost.specs.labels as labels
 pub use Rattle.route_cost.specs.break_clock as break_clock
 pub use Rattle.route_cost.specs.evaluation as evaluation
 pub use Rattle.route_cost.specs as route_cost
+-- and their laws
+pub use Rattle.route_cost.specs.ModelsValidLaws as ModelsValidLaws
+pub use Rattle.route_cost.specs.BreakClockStopLaws as BreakClockStopLaws
+pub use Rattle.route_cost.proofs.VisitLaws as RouteCostVisitLaws

@@ -19,7 +19,7 @@ use Rattle.route_cost.specs.models.Vehicle.{fixed_cost_in_distance}
 use Rattle.route_cost.specs.models.RouteLimits.{limits_of}
 use Rattle.route_cost.specs.models.Problem.{Problem, depot}
 use Rattle.route_cost.specs.plan.Plan.{Plan}
-use Rattle.route_cost.proofs.of_evaluation_laws.Agreement.{unneeded_passes}
+use Rattle.route_cost.specs.EvaluationLawsAgreement.{unneeded_passes}
 use Rattle.route_cost.specs.Route.{route_distance, cost}
 use Rattle.route_load.specs.Feasible.{Sound, demand_at, load, fits, has_room, constrained, passes, checked, feasible}
 

@@ -6,32 +6,12 @@ ghost use Rattle.route_cost.specs.models.Problem.{of_demand, Stops, Demands};
 ghost use Rattle.route_load.specs.Feasible.{demand_at, load, fits, has_room};
 
 // Of the crates below, passed on to those above.
-pub use route_cost::abs;
-pub use route_cost::infinity;
-pub use route_cost::max;
-pub use route_cost::min;
-pub use route_cost::Customer;
-pub use route_cost::Window;
-pub use route_cost::RouteLimits;
-pub use route_cost::Vehicle;
-pub use route_cost::customer_at;
-pub use route_cost::get;
-pub use route_cost::travel_time;
-pub use route_cost::Taken;
-pub use route_cost::Eval;
-pub use route_cost::RouteEval;
-pub use route_cost::break_schedule_schedule;
-pub use route_cost::evaluation_check;
-pub use route_cost::Left;
-pub use route_cost::evaluation_route_feasible;
-pub use route_cost::route_checks_needed;
-pub use route_cost::trial_feasible;
-pub use route_cost::Best as RouteCostBest;
-pub use route_cost::Insertion;
-pub use route_cost::gain_floor as route_cost_gain_floor;
-pub use route_cost::route_distance as route_cost_route_distance;
-
-
+pub use route_cost::{
+    Best as RouteCostBest, Customer, Eval, Insertion, Left, RouteEval, RouteLimits, Taken, Vehicle,
+    Window, abs, break_schedule_schedule, customer_at, evaluation_check, evaluation_route_feasible,
+    gain_floor as route_cost_gain_floor, get, infinity, max, min, route_checks_needed,
+    route_distance as route_cost_route_distance, travel_time, trial_feasible,
+};
 
 // The sum of the demands of a route.
 pub fn load(route: &[u16], demand: &[i32]) -> i32

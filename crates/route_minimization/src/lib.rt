@@ -9,16 +9,10 @@ ghost use Rattle.minimization_search.specs.minimization.Minimize.{minimize_route
 ghost use Rattle.minimization_search.specs.ejection_pool.Running.{allowance};
 ghost use Rattle.minimization_search.specs.Minimizing.{Searching};
 
-use minimization_search::constrained;
-use minimization_search::Counts;
-use minimization_search::Reduction;
-use minimization_search::search;
-
-use minimization_search::has_soft_windows;
+use minimization_search::{Counts, Reduction, constrained, has_soft_windows, search};
 
 // Of the crates below, passed on to those above.
-pub use minimization_search::Vehicle;
-pub use minimization_search::rounds;
+pub use minimization_search::{Vehicle, rounds};
 
 // `minimize_routes`: with a soft window the plan comes back as given, otherwise with as many routes fewer as the attempts find.
 pub fn minimize_routes(

@@ -5,12 +5,7 @@ ghost use Rattle.std.specs.Prelude.{◌≡◌};
 ghost use Rattle.route_order.specs.Order.{is_after, shorter, considered, next_pick};
 
 // Of the crates below, passed on to those above.
-pub use plan::copy_part;
-pub use plan::cut;
-pub use plan::insert_at;
-pub use plan::offset;
-pub use plan::put_in;
-pub use plan::take_out;
+pub use plan::{copy_part, cut, insert_at, offset, put_in, take_out};
 
 // A route and its length, or none.
 #[derive(Clone, Copy)]

@@ -5,8 +5,7 @@ ghost use Rattle.std.specs.Prelude.{◌≡◌, reverse, ◌<◌, ◌≤◌, leng
 ghost use Rattle.ejection_made.specs.plan.Plan.{Lent, split, route};
 ghost use Rattle.ejection_made.specs.Made.{stack};
 
-use ejection_made::copy_part;
-use ejection_made::offset;
+use ejection_made::{copy_part, offset};
 
 // Route r goes to the first cells of the pool. Returns how many stops it has.
 pub fn to_pool(pool: &mut [u16], lengths: &[u16], stops: &[u16], r: usize) -> usize

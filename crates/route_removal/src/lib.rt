@@ -6,10 +6,7 @@ ghost use Rattle.route_exchange.specs.laws.Edits.{erase};
 ghost use Rattle.route_exchange.specs.plan.Plan.{Holds, Lent, split, total, padded, drop_zero};
 
 // Of the crates below, passed on to those above.
-pub use route_exchange::copy_part;
-pub use route_exchange::offset;
-
-
+pub use route_exchange::{copy_part, offset};
 
 // Route k is taken out: every later length moves one place left and the last becomes 0, every later stop moves left by the route's length.
 pub fn erase_route(lengths: &mut [u16], stops: &mut [u16], k: usize)

@@ -11,7 +11,7 @@ use Rattle.emptied_route.specs.models.declared.vehicle.Vehicle.{Vehicle}
 use Rattle.emptied_route.specs.models.Vehicle.{fixed_cost_in_distance}
 use Rattle.emptied_route.specs.models.Problem.{problem}
 use Rattle.emptied_route.specs.plan.Plan.{split, route, offset}
-use Rattle.emptied_route.proofs.of_route_cost.VisitLaws.{part_is}
+use Rattle.emptied_route.specs.RouteCostVisitLaws.{part_is}
 use Rattle.emptied_route.specs.reinsertion_worth.Worth.{worth}
 use Rattle.emptied_route.specs.Attempts.{Attempted}
 use Rattle.emptied_route.proofs.EmptiedLaws.{attempt_visit}

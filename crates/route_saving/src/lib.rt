@@ -9,22 +9,13 @@ ghost use Rattle.emptied_route.specs.plan.Plan.{split, route};
 ghost use Rattle.emptied_route.specs.reinsertion_worth.Worth.{worth};
 ghost use Rattle.emptied_route.specs.Attempts.{Attempted};
 
-
-use emptied_route::offset;
-use emptied_route::worth;
+use emptied_route::{offset, worth};
 
 // Of the crates below, passed on to those above.
-pub use emptied_route::is_finite;
-pub use emptied_route::Vehicle;
-pub use emptied_route::has_soft_windows;
-pub use emptied_route::Pick;
-pub use emptied_route::next_pick;
-pub use emptied_route::route_cost_gain_floor;
-pub use emptied_route::constrained;
-pub use emptied_route::Counts;
-pub use emptied_route::LocalSearchNext;
-pub use emptied_route::Reduction;
-pub use emptied_route::empty_route;
+pub use emptied_route::{
+    Counts, LocalSearchNext, Pick, Reduction, Vehicle, constrained, empty_route, has_soft_windows,
+    is_finite, next_pick, route_cost_gain_floor,
+};
 
 // What is saved where route r goes: its worth and its fixed cost.
 pub fn saved_by(

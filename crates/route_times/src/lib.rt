@@ -11,31 +11,14 @@ ghost use Rattle.walked_times.specs.quick_test.Quick.{departures, latest_arrival
 ghost use Rattle.walked_times.specs.quick_test.Parts.{told};
 ghost use Rattle.route_times.specs.Prepared.{held, Prepared};
 
-
 use walked_times::{departures, latest_arrivals};
 
 // Of the crates below, passed on to those above.
-pub use walked_times::Vehicle;
-pub use walked_times::copy_part;
-pub use walked_times::offset;
-pub use walked_times::put_in;
-pub use walked_times::take_out;
-pub use walked_times::Pick;
-pub use walked_times::next_pick;
-pub use walked_times::RouteCostBest;
-pub use walked_times::Insertion;
-pub use walked_times::insertion_cost_insertion_cost;
-pub use walked_times::has_room;
-pub use walked_times::within_capacity;
-pub use walked_times::rounds;
-pub use walked_times::checked;
-pub use walked_times::constrained;
-pub use walked_times::feasible;
-pub use walked_times::trial_ok;
-pub use walked_times::Counts;
-pub use walked_times::LocalSearchNext;
-pub use walked_times::Reduction;
-pub use walked_times::may_fit;
+pub use walked_times::{
+    Counts, Insertion, LocalSearchNext, Pick, Reduction, RouteCostBest, Vehicle, checked,
+    constrained, copy_part, feasible, has_room, insertion_cost_insertion_cost, may_fit, next_pick,
+    offset, put_in, rounds, take_out, trial_ok, within_capacity,
+};
 
 // The departures go to the first 256 work cells; false where one of the stops is reached after its window closes.
 fn keep_departures(

@@ -11,16 +11,12 @@ ghost use Rattle.pool_attempt.specs.local_search.Search.{EndsWith0, but_last};
 ghost use Rattle.pool_attempt.specs.Judged.{tried};
 ghost use Rattle.route_without.specs.Attempting.{Attempting};
 
-
-
 use pool_attempt::try_rest;
 use route_pool::to_pool;
 use route_removal::erase_route;
 
 // Of the crates below, passed on to those above.
-pub use pool_attempt::Vehicle;
-pub use pool_attempt::Counts;
-pub use pool_attempt::Attempted;
+pub use pool_attempt::{Attempted, Counts, Vehicle};
 
 // Route r is taken out of the plan and emptied into the others. The work cells are free.
 pub fn try_without(

@@ -20,7 +20,7 @@ use Rattle.route_drive.specs.evaluation.declared.eval.Walked.TheVariants.{Late, 
 use Rattle.route_drive.specs.break_clock.Schedule.{schedule}
 use Rattle.route_drive.specs.break_clock.RouteEval.{priced_distance}
 use Rattle.route_drive.specs.evaluation.Eval.{limited, set_out, drive, onward, drive_all, home, homeward, eval_with, route_eval, worth, effective_cost}
-use Rattle.route_drive.proofs.of_break_clock.StopLaws.{stops_all}
+use Rattle.route_drive.specs.BreakClockStopLaws.{stops_all}
 use Rattle.route_drive.proofs.DriveLaws.{drive_goes}
 
 -- ---- the ends of the walk

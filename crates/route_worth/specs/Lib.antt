@@ -7,3 +7,7 @@ pub use Rattle.route_drive.specs.distance as distance
 pub use Rattle.route_drive.specs.labels as labels
 pub use Rattle.route_drive.specs.break_clock as break_clock
 pub use Rattle.route_drive.specs.evaluation as evaluation
+-- and their laws
+pub use Rattle.route_drive.specs.ModelsValidLaws as ModelsValidLaws
+pub use Rattle.route_drive.specs.BreakClockScheduleLaws as BreakClockScheduleLaws
+pub use Rattle.route_drive.specs.BreakClockStopLaws as BreakClockStopLaws

@@ -6,29 +6,16 @@ ghost use Rattle.route_drive.specs.models.Customer.{customers};
 ghost use Rattle.route_drive.specs.models.Problem.{matrix, Fit, Stops};
 ghost use Rattle.route_drive.specs.evaluation.Eval.{route_eval, effective_cost};
 
-use route_drive::Eval;
-use route_drive::break_schedule_schedule as schedule;
-use route_drive::Walk;
-use route_drive::Walked;
-use route_drive::limited;
-use route_drive::infinity;
-
-use route_drive::Rest;
-use route_drive::VehicleBreak;
-use route_drive::{drive_all, home};
+use route_drive::{
+    Eval, Rest, VehicleBreak, Walk, Walked, break_schedule_schedule as schedule, drive_all, home,
+    infinity, limited,
+};
 
 // Of the crates below, passed on to those above.
-pub use route_drive::is_finite;
-pub use route_drive::max;
-pub use route_drive::total_less;
-pub use route_drive::Penalty;
-pub use route_drive::Window;
-pub use route_drive::RouteLimits;
-pub use route_drive::Vehicle;
-pub use route_drive::penalty_at;
-pub use route_drive::window_at;
-pub use route_drive::largest;
-pub use route_drive::has_soft_windows;
+pub use route_drive::{
+    Penalty, RouteLimits, Vehicle, Window, has_soft_windows, is_finite, largest, max, penalty_at,
+    total_less, window_at,
+};
 
 // The evaluation of the route depot, stops, depot.
 pub fn route_eval(

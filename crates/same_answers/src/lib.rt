@@ -6,12 +6,7 @@ ghost use Rattle.stored_answers.specs.planner.Told.{slices_of};
 ghost use Rattle.stored_answers.specs.Answers.{same_stored, same_rest, same_cells, same_plan};
 
 // Of the crates below, passed on to those above.
-pub use stored_answers::Stored;
-pub use stored_answers::of_number;
-pub use stored_answers::of_replied;
-pub use stored_answers::of_window;
-
-
+pub use stored_answers::{Stored, of_number, of_replied, of_window};
 
 // Whether two answers have the same numbers.
 pub fn same_stored(x: Stored, y: Stored) -> bool

@@ -27,7 +27,7 @@ use Rattle.planner.specs.Calls.{Answer, refused, answered, plan_in, reply, publi
 use Rattle.sheet_laws.specs.sheet_text.Text.{Reading, refused as refused-reading, got}
 use Rattle.sheet_laws.specs.sheet_format.Form.{Sheet, sheet}
 use Rattle.sheet_laws.proofs.Read.{sheet_holds}
-use Rattle.sheet_laws.proofs.of_listing.BoundLaws.{listing_fits, refusal_fits}
+use Rattle.sheet_laws.specs.ListingBoundLaws.{listing_fits, refusal_fits}
 use Rattle.sheet_answers.specs.Printed.{work, unless_refused, eliminated, planned, printed_of, printed}
 
 -- the stops of some of a plan's routes are no more than all

@@ -4,5 +4,3 @@ pub mod Fits
 pub mod ListedLaws
 -- each text is refused or listed
 pub mod Answers
--- crates below, passed on to those above
-pub use Rattle.sheet_laws.proofs as of_sheet_laws

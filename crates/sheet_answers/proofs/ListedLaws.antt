@@ -21,8 +21,8 @@ use Rattle.planner.specs.elimination_moves.Eliminated.{eliminate_keeps}
 use Rattle.planner.specs.ejection_pool.Running.{allowance}
 use Rattle.planner.specs.entry.Table.{too_few, table, first_applying, refusal}
 use Rattle.planner.specs.entry.Given.{entry, eliminate_inputs}
-use Rattle.planner.proofs.of_entry.EntryLaws.{own_rows}
-use Rattle.planner.proofs.of_entry.AdmittedLaws.{Accepted, eliminate_accepted}
+use Rattle.planner.specs.EntryEntryLaws.{own_rows}
+use Rattle.planner.specs.EntryAdmittedLaws.{Accepted, eliminate_accepted}
 use Rattle.planner.specs.Calls.{refused, answered, Reply, plan_in, reply, public_minimise, public_eliminate}
 use Rattle.planner.specs.Run.{Call, eliminate, call, run}
 use Rattle.planner.specs.declared.calls.Replied.{Replied}
@@ -30,12 +30,12 @@ use Rattle.planner.specs.declared.calls.Replied.TheVariants.{Refused as NotRepli
 use Rattle.planner.specs.Told.{slices_of, work_of, reply_of}
 use Rattle.planner.proofs.Demand3.{demand_3}
 use Rattle.sheet_laws.specs.sheet_text.Text.{refused as refused-reading, got}
-use Rattle.sheet_laws.proofs.of_sheet_text.ReadLaws.{told}
+use Rattle.sheet_laws.specs.SheetTextReadLaws.{told}
 use Rattle.sheet_laws.specs.sheet_format.Form.{Sheet, sheet}
 use Rattle.sheet_laws.specs.listing.Listing.{of_listing, Prints, listing, refusal_line}
 use Rattle.sheet_laws.specs.listing.Written.{Room, Written}
-use Rattle.sheet_laws.proofs.of_listing.ReadLaws.{read, listing_reads}
-use Rattle.sheet_laws.proofs.of_listing.BoundLaws.{listing_fits, refusal_fits}
+use Rattle.sheet_laws.specs.ListingReadLaws.{read, listing_reads}
+use Rattle.sheet_laws.specs.ListingBoundLaws.{listing_fits, refusal_fits}
 use Rattle.sheet_laws.specs.Short.{Short}
 use Rattle.sheet_laws.proofs.Distances.{distance-prints}
 use Rattle.sheet_answers.proofs.Fits.{flat_take, every}

@@ -6,3 +6,5 @@ pub mod Refused
 pub mod Sample
 -- crates below, passed on to those above
 pub use Rattle.sheet_laws.specs as sheet_laws
+-- and their laws
+pub use Rattle.sheet_laws.proofs.Read as SheetLawsRead

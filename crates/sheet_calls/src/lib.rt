@@ -8,10 +8,7 @@ ghost use Rattle.sheet_elimination.specs.listing.Written.{Written};
 ghost use Rattle.sheet_elimination.specs.sheet_laws.Short.{Short};
 ghost use Rattle.sheet_elimination.specs.sheet_answers.Printed.{planned, sheet_of};
 
-
-use minimise_call::minimise;
-use minimise_call::Vehicle;
-use minimise_call::Replied;
+use minimise_call::{Replied, Vehicle, minimise};
 use sheet_elimination::list_eliminated;
 
 // Of the crates below, passed on to those above.

@@ -6,3 +6,5 @@ pub use Rattle.sheet_format.specs.plan as plan
 pub use Rattle.sheet_format.specs.sheet_text as sheet_text
 pub use Rattle.sheet_format.specs.sheet_headings as sheet_headings
 pub use Rattle.sheet_format.specs as sheet_format
+-- and their laws
+pub use Rattle.sheet_format.specs.SheetTextReadLaws as SheetTextReadLaws

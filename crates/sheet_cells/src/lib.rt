@@ -5,20 +5,13 @@ ghost use Rattle.std.specs.Prelude.{◌≡◌};
 ghost use Rattle.sheet_format.specs.Form.{ready_cell as Form·ready-cell, due_cell as Form·due-cell, penalty_cell as Form·penalty-cell, flags_cell as Form·flags-cell};
 ghost use Rattle.sheet_format.specs.Form.{stop_cell as Form·stop-cell};
 
-use sheet_format::Penalty;
-use sheet_format::Window;
+use sheet_format::{Penalty, Window};
 
 // Of the crates below, passed on to those above.
-pub use sheet_format::SheetTextNext;
-pub use sheet_format::NumberAt;
-pub use sheet_format::byte;
-pub use sheet_format::sheet_text_number;
-pub use sheet_format::Count;
-pub use sheet_format::ending;
-pub use sheet_format::number_before;
-pub use sheet_format::heading;
-pub use sheet_format::places::PlaceAt;
-pub use sheet_format::places::place_line;
+pub use sheet_format::places::{PlaceAt, place_line};
+pub use sheet_format::{
+    Count, NumberAt, SheetTextNext, byte, ending, heading, number_before, sheet_text_number,
+};
 
 // READY as its cell holds it, 0 where there is none.
 pub fn ready_cell(window: Window) -> f64

@@ -6,3 +6,6 @@ pub use Rattle.sheet_reader.specs.plan as plan
 pub use Rattle.sheet_reader.specs.sheet_text as sheet_text
 pub use Rattle.sheet_reader.specs.sheet_format as sheet_format
 pub use Rattle.sheet_reader.specs as sheet_reader
+-- and their laws
+pub use Rattle.sheet_reader.specs.SheetTextReadLaws as SheetTextReadLaws
+pub use Rattle.sheet_reader.proofs.FillLaws as SheetReaderFillLaws

@@ -8,14 +8,10 @@ ghost use Rattle.sheet_reader.specs.sheet_format.Form.{draws as Form·draws};
 ghost use Rattle.sheet_reader.specs.Cells.{filled, AtMost};
 ghost use Rattle.sheet_draws.specs.Draws.{filled_count};
 
-use sheet_reader::number_before;
-use sheet_reader::heading;
-use sheet_reader::SheetTextNext as Next;
-use sheet_reader::NumberAt;
+use sheet_reader::{NumberAt, SheetTextNext as Next, heading, number_before};
 
 // Of the crates below, passed on to those above.
 pub use sheet_reader::Count;
-
 
 // n draws, one a line, into the first cells.
 fn draw_rows(cells: &mut [u64], s: &[u8], at: usize, n: usize) -> Next

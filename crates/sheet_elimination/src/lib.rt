@@ -8,12 +8,8 @@ ghost use Rattle.listing_whole.specs.listing.Written.{Written};
 ghost use Rattle.sheet_answers.specs.sheet_laws.Short.{Short};
 ghost use Rattle.sheet_answers.specs.Printed.{eliminated};
 
-use eliminate_call::eliminate;
-
+use eliminate_call::{Counts, Replied, Vehicle, eliminate};
 use listing_whole::put_listing;
-use eliminate_call::Counts;
-use eliminate_call::Vehicle;
-use eliminate_call::Replied;
 
 // Of the crates below, passed on to those above.
 pub use listing_whole::put_refusal;

@@ -6,20 +6,13 @@ ghost use Rattle.sheet_text.specs.Text.{before};
 ghost use Rattle.sheet_text.specs.Text.{number as Text·number, signed as Text·signed, optional as Text·optional};
 ghost use Rattle.sheet_text.specs.Told.{told_number, told_signed, told_optional};
 
-use sheet_text::numbers::Next;
-use sheet_text::numbers::is_end;
-use sheet_text::numbers::number;
+use sheet_text::numbers::{Next, is_end, number};
 
 // Of the crates below, passed on to those above.
-pub use sheet_text::numbers::Next as SheetTextNext;
-pub use sheet_text::numbers::NumberAt;
-pub use sheet_text::numbers::OptionalAt;
-pub use sheet_text::numbers::SignedAt;
-pub use sheet_text::numbers::byte;
-pub use sheet_text::numbers::number as sheet_text_number;
-pub use sheet_text::numbers::peek;
-pub use sheet_text::words::Count;
-pub use sheet_text::words::ending;
+pub use sheet_text::numbers::{
+    Next as SheetTextNext, NumberAt, OptionalAt, SignedAt, byte, number as sheet_text_number, peek,
+};
+pub use sheet_text::words::{Count, ending};
 
 // A number and the byte behind it.
 pub fn number_before(s: &[u8], at: usize, b: u8) -> NumberAt

@@ -12,8 +12,8 @@ use Rattle.models.specs.declared.customer.Customer.{Customer}
 use Rattle.models.specs.declared.customer.Window.{Window}
 use Rattle.models.specs.declared.customer.Penalty.{Penalty}
 use Rattle.sheet_fields.specs.sheet_text.Text.{Reading, refused, got, next, Parser, minus, byte_at, byte, if_minus, either}
-use Rattle.sheet_fields.proofs.of_sheet_text.ReadLaws.{told, next_got}
-use Rattle.sheet_fields.proofs.of_sheet_text.TextLaws.{byte_yes}
+use Rattle.sheet_fields.specs.SheetTextReadLaws.{told, next_got}
+use Rattle.sheet_fields.specs.SheetTextTextLaws.{byte_yes}
 use Rattle.sheet_format.specs.Told.{told_window, told_penalty, told_place}
 use Rattle.sheet_format.specs.declared.places.Place.{Place}
 use Rattle.sheet_format.specs.declared.places.WindowAt.{WindowAt}

@@ -15,3 +15,5 @@ pub use Rattle.models.specs as models
 pub use Rattle.plan.specs as plan
 pub use Rattle.sheet_fields.specs.sheet_text as sheet_text
 pub use Rattle.sheet_headings.specs as sheet_headings
+-- and their laws
+pub use Rattle.sheet_fields.specs.SheetTextReadLaws as SheetTextReadLaws

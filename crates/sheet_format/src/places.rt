@@ -5,14 +5,10 @@ ghost use Rattle.sheet_format.specs.Form.{window as Form·window, penalty as For
 ghost use Rattle.sheet_format.specs.Told.{told_window, told_penalty, told_place};
 
 use models::customer::{Customer, Penalty, TimeWindow, Window};
-use sheet_fields::{number_before, optional_before, signed_before};
-use sheet_fields::SheetTextNext as Next;
-use sheet_fields::NumberAt;
-use sheet_fields::OptionalAt;
-use sheet_fields::SignedAt;
-use sheet_fields::byte;
-use sheet_fields::sheet_text_number as number;
-use sheet_fields::peek;
+use sheet_fields::{
+    NumberAt, OptionalAt, SheetTextNext as Next, SignedAt, byte, number_before, optional_before,
+    peek, sheet_text_number as number, signed_before,
+};
 
 // A place's line: its demand, and what the evaluation of a route reads of it.
 #[derive(Clone, Copy)]

@@ -5,6 +5,3 @@ pub mod Stops
 pub mod Distances
 -- the distances of a sheet that was read
 pub mod Read
--- crates below, passed on to those above
-pub use Rattle.sheet_format.proofs.of_sheet_text as of_sheet_text
-pub use Rattle.listing.proofs as of_listing

@@ -6,10 +6,7 @@ ghost use Rattle.sheet_parts.specs.sheet_reader.Cells.{columns_of, Room as Colum
 ghost use Rattle.sheet_parts.specs.listing.Written.{Written};
 ghost use Rattle.sheet_parts.specs.sheet_answers.Printed.{printed};
 
-use sheet_parts::put_refusal;
-use sheet_parts::list_parts;
-use sheet_parts::SheetAt;
-use sheet_parts::sheet_whole_sheet as sheet;
+use sheet_parts::{SheetAt, list_parts, put_refusal, sheet_whole_sheet as sheet};
 
 // Reads the text into the slices, and plans what they hold.
 pub fn list_read(

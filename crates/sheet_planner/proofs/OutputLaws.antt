@@ -13,7 +13,7 @@ use Rattle.sheet_planner.specs.declared.Printed.{Printed}
 use Rattle.sheet_planner.specs.declared.Printed.TheVariants.{NoRoom, Bytes}
 use Rattle.sheet_planner.specs.Output.{Output, output, into}
 use Rattle.sheet_listing.specs.sheet_answers.Printed.{printed}
-use Rattle.sheet_listing.proofs.of_sheet_answers.Fits.{printed_fits}
+use Rattle.sheet_listing.specs.SheetAnswersFits.{printed_fits}
 
 module _ (out text : List ℕ) where
   pub no_room : length out < 6000 → output NoRoom out ≡ into out text

@@ -14,7 +14,7 @@ use Rattle.sheet_vehicle.specs.sheet_text.Text.{Reading, refused, got, map_readi
 use Rattle.sheet_vehicle.specs.sheet_format.declared.places.Place.{Place}
 use Rattle.sheet_vehicle.specs.sheet_format.Form.{vehicle, places, roads, break, with_rest, problem_of, whole_problem}
 use Rattle.sheet_roads.specs.sheet_reader.Cells.{Columns, columns, first_cells}
-use Rattle.sheet_roads.proofs.of_sheet_reader.FillLaws.{got_of, refused_of}
+use Rattle.sheet_roads.specs.SheetReaderFillLaws.{got_of, refused_of}
 use Rattle.sheet_problem.specs.Told.{problem_in}
 
 pub square_fits : (n m : ℕ) → n ≤ 64 → 4096 ≤ m → n * n ≤ m

@@ -6,12 +6,9 @@ ghost use Rattle.sheet_vehicle.specs.sheet_format.Form.{whole_problem};
 ghost use Rattle.sheet_roads.specs.sheet_reader.Cells.{columns_of, Room};
 ghost use Rattle.sheet_problem.specs.Told.{told_problem, ProblemWithin};
 
-use sheet_vehicle::Vehicle;
-use sheet_roads::sheet_reader_places as places;
 use sheet_rest::{RestAt, rest, with_rest};
-use sheet_roads::roads;
-use sheet_vehicle::Count;
-use sheet_vehicle::{VehicleAt, vehicle};
+use sheet_roads::{roads, sheet_reader_places as places};
+use sheet_vehicle::{Count, Vehicle, VehicleAt, vehicle};
 
 // How many places there are, how many rows of times, and the vehicle.
 #[derive(Clone, Copy)]

@@ -11,7 +11,7 @@ use Rattle.sheet_cells.specs.sheet_text.Text.{Reading, refused, got, next, Parse
 use Rattle.sheet_cells.specs.sheet_text.Told.{told_number}
 use Rattle.sheet_cells.specs.sheet_text.declared.numbers.NumberAt.{NumberAt}
 use Rattle.sheet_cells.specs.sheet_text.declared.numbers.NumberAt.TheVariants.{Got as NumberGot, Bad as NumberBad}
-use Rattle.sheet_cells.proofs.of_sheet_text.ReadLaws.{told}
+use Rattle.sheet_cells.specs.SheetTextReadLaws.{told}
 use Rattle.sheet_reader.specs.Cells.{front}
 
 -- ---- readings seen through a function

@@ -9,7 +9,7 @@ use lib.Seq.{take-suc-set}
 use lib.IntN.{ℤ}
 use lib.Ieee.{Float}
 use Rattle.sheet_cells.specs.sheet_text.Text.{Reading, refused, got, map_reading, repeat}
-use Rattle.sheet_cells.proofs.of_sheet_text.ReadLaws.{told}
+use Rattle.sheet_cells.specs.SheetTextReadLaws.{told}
 use Rattle.sheet_cells.specs.sheet_format.declared.places.Place.{Place}
 use Rattle.sheet_cells.specs.sheet_format.declared.places.PlaceAt.{PlaceAt}
 use Rattle.sheet_cells.specs.sheet_format.declared.places.PlaceAt.TheVariants.{Got as PlaceGot, Bad as PlaceBad}

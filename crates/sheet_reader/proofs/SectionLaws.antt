@@ -11,7 +11,7 @@ use Rattle.sheet_cells.specs.sheet_text.declared.numbers.Next.{Next}
 use Rattle.sheet_cells.specs.sheet_text.declared.numbers.Next.TheVariants.{At as NextAt, Bad as NextBad}
 use Rattle.sheet_cells.specs.sheet_text.declared.words.Count.{Count}
 use Rattle.sheet_cells.specs.sheet_text.declared.words.Count.TheVariants.{Got as CountGot}
-use Rattle.sheet_cells.proofs.of_sheet_text.ReadLaws.{told}
+use Rattle.sheet_cells.specs.SheetTextReadLaws.{told}
 use Rattle.sheet_cells.specs.sheet_headings.Heading.{heading}
 use Rattle.sheet_reader.specs.Cells.{filled}
 

@@ -4,12 +4,10 @@ ghost use Rattle.sheet_cells.specs.sheet_text.Text.{map_reading, repeat};
 ghost use Rattle.sheet_cells.specs.sheet_format.Form.{place as Form·place, places as Form·places};
 ghost use Rattle.sheet_reader.specs.Cells.{columns_of, columns, first_cells, add_place, Room, AtMost, filled, filled_places};
 
-use sheet_cells::{due_cell, flags_cell, penalty_cell, ready_cell};
-use sheet_cells::PlaceAt;
-use sheet_cells::place_line;
-use sheet_cells::heading;
-use sheet_cells::SheetTextNext as Next;
-use sheet_cells::Count;
+use sheet_cells::{
+    Count, PlaceAt, SheetTextNext as Next, due_cell, flags_cell, heading, penalty_cell, place_line,
+    ready_cell,
+};
 
 // The line of place i, into cell i of each slice.
 fn place_row(

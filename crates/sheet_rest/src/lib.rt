@@ -5,12 +5,7 @@ ghost use Rattle.std.specs.Prelude.{◌≡◌};
 ghost use Rattle.sheet_format.specs.Form.{rest_line, break, with_rest};
 ghost use Rattle.sheet_rest.specs.Told.{told_rest};
 
-use sheet_format::Rest;
-use sheet_format::Vehicle;
-use sheet_format::number_before;
-use sheet_format::heading;
-use sheet_format::NumberAt;
-use sheet_format::Count;
+use sheet_format::{Count, NumberAt, Rest, Vehicle, heading, number_before};
 
 #[derive(Clone, Copy)]
 pub enum RestAt {

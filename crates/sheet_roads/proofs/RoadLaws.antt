@@ -10,13 +10,13 @@ use lib.Ieee.{Float}
 use Rattle.sheet_squares.specs.sheet_text.Text.{Reading, refused, got, next, check, map_reading, repeat}
 use Rattle.sheet_squares.specs.sheet_text.declared.words.Count.{Count}
 use Rattle.sheet_squares.specs.sheet_text.declared.words.Count.TheVariants.{Got as CountGot, Refused as CountRefused}
-use Rattle.sheet_squares.proofs.of_sheet_text.ReadLaws.{told}
+use Rattle.sheet_squares.specs.SheetTextReadLaws.{told}
 use Rattle.sheet_squares.specs.plan.Plan.{flat}
 use Rattle.sheet_squares.specs.models.Problem.{matrix}
 use Rattle.sheet_squares.specs.sheet_format.Form.{square, distances, times, roads, row_by_row}
 use Rattle.sheet_roads.specs.declared.Section.{Section}
 use Rattle.sheet_roads.specs.declared.Section.TheVariants.{At as SectionAt, Refused as SectionRefused}
-use Rattle.sheet_squares.proofs.of_sheet_reader.FillLaws.{got_of, refused_of}
+use Rattle.sheet_squares.specs.SheetReaderFillLaws.{got_of, refused_of}
 use Rattle.sheet_roads.specs.Roads.{filled_section, filled_square, filled_roads}
 
 -- ---- times

@@ -8,10 +8,7 @@ ghost use Rattle.sheet_squares.specs.sheet_reader.Cells.{AtMost};
 ghost use Rattle.sheet_roads.specs.Roads.{filled_section, filled_square, filled_roads};
 ghost use Rattle.sheet_squares.specs.sheet_format.Form.{row_by_row};
 
-use sheet_squares::heading;
-use sheet_squares::square;
-use sheet_squares::SheetTextNext as Next;
-use sheet_squares::Count;
+use sheet_squares::{Count, SheetTextNext as Next, heading, square};
 
 // Of the crates below, passed on to those above.
 pub use sheet_squares::sheet_reader_places;

@@ -14,7 +14,7 @@ use Rattle.sheet_reader.specs.sheet_text.declared.numbers.Next.{Next}
 use Rattle.sheet_reader.specs.sheet_text.declared.numbers.Next.TheVariants.{At as NextAt, Bad as NextBad}
 use Rattle.sheet_reader.specs.sheet_text.declared.words.Count.{Count}
 use Rattle.sheet_reader.specs.sheet_text.declared.words.Count.TheVariants.{Got as CountGot, Refused as CountRefused}
-use Rattle.sheet_reader.proofs.of_sheet_text.ReadLaws.{told}
+use Rattle.sheet_reader.specs.SheetTextReadLaws.{told}
 use Rattle.sheet_reader.specs.sheet_format.Form.{stop_cell, route_line, route_lines, slices_of}
 use Rattle.sheet_reader.specs.Cells.{front}
 use Rattle.sheet_routes.specs.declared.routes.PlanAt.{PlanAt}

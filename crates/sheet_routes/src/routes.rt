@@ -5,15 +5,10 @@ ghost use Rattle.sheet_reader.specs.sheet_format.Form.{stop_cell as Form·stop-c
 ghost use Rattle.sheet_reader.specs.Cells.{front, filled};
 ghost use Rattle.sheet_routes.specs.Routes.{route_behind, filled_route, filled_plan, PlanWithin};
 
-use sheet_reader::stop_cell;
-use sheet_reader::number_before;
-use sheet_reader::heading;
-use sheet_reader::SheetTextNext as Next;
-use sheet_reader::NumberAt;
-use sheet_reader::byte;
-use sheet_reader::sheet_text_number as number;
-use sheet_reader::Count;
-use sheet_reader::ending;
+use sheet_reader::{
+    Count, NumberAt, SheetTextNext as Next, byte, ending, heading, number_before,
+    sheet_text_number as number, stop_cell,
+};
 
 // How many routes there are, how many stops in all, and the position after them; or the number of a refusal.
 #[derive(Clone, Copy)]

@@ -2,7 +2,7 @@
 use Prim.Native.Nat.{ℕ}
 use mathlib.Core.Path.{◌≡◌}
 use Rattle.sheet_format.specs.sheet_text.Text.{Reading, refused, next}
-use Rattle.sheet_format.proofs.of_sheet_text.ReadLaws.{told, next_got}
+use Rattle.sheet_format.specs.SheetTextReadLaws.{told, next_got}
 use Rattle.sheet_format.specs.Form.{Run}
 use Rattle.sheet_run.specs.declared.RunAt.{RunAt}
 use Rattle.sheet_run.specs.declared.RunAt.TheVariants.{Got as RunGot, Refused as RunRefused}

@@ -6,10 +6,7 @@ ghost use Rattle.sheet_format.specs.Form.{run_line, last_run};
 ghost use Rattle.sheet_format.specs.Form.{run as Form·run};
 ghost use Rattle.sheet_run.specs.Run.{told_run};
 
-use sheet_format::number_before;
-use sheet_format::heading;
-use sheet_format::NumberAt;
-use sheet_format::Count;
+use sheet_format::{Count, NumberAt, heading, number_before};
 
 // M, the step limit, K, the clock, and the position after them; or the number of a refusal.
 #[derive(Clone, Copy)]

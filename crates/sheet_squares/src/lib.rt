@@ -7,16 +7,11 @@ ghost use Rattle.sheet_reader.specs.sheet_text.Text.{map_reading, line};
 ghost use Rattle.sheet_reader.specs.sheet_format.Form.{square as Form·square, row_by_row};
 ghost use Rattle.sheet_reader.specs.Cells.{front, filled};
 
-use sheet_reader::number_before;
-use sheet_reader::SheetTextNext as Next;
-use sheet_reader::NumberAt;
-use sheet_reader::ending;
+use sheet_reader::{NumberAt, SheetTextNext as Next, ending, number_before};
 
 // Of the crates below, passed on to those above.
-pub use sheet_reader::SheetTextNext;
-pub use sheet_reader::Count;
-pub use sheet_reader::heading;
 pub use sheet_reader::places::places as sheet_reader_places;
+pub use sheet_reader::{Count, SheetTextNext, heading};
 
 // The k numbers that end a line, into the cells from base on.
 fn number_row(cells: &mut [f64], base: usize, s: &[u8], at: usize, k: usize) -> Next

@@ -10,7 +10,7 @@ use Rattle.sheet_format.specs.models.declared.vehicle.Limit.{Limit}
 use Rattle.sheet_format.specs.models.declared.vehicle.Rest.TheVariants.{None as NoRest}
 use Rattle.sheet_format.specs.models.declared.vehicle.Vehicle.{Vehicle}
 use Rattle.sheet_format.specs.sheet_text.Text.{Reading, refused, got, next}
-use Rattle.sheet_format.proofs.of_sheet_text.ReadLaws.{told, next_got}
+use Rattle.sheet_format.specs.SheetTextReadLaws.{told, next_got}
 use Rattle.sheet_vehicle.specs.Told.{told_limit}
 use Rattle.sheet_vehicle.specs.declared.LimitAt.{LimitAt}
 use Rattle.sheet_vehicle.specs.declared.LimitAt.TheVariants.{Got as LimitGot, Bad as LimitBad}

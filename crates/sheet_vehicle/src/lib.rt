@@ -6,20 +6,13 @@ ghost use Rattle.sheet_format.specs.Form.{limit as Form·limit, vehicle_line};
 ghost use Rattle.sheet_format.specs.Form.{vehicle as Form·vehicle};
 ghost use Rattle.sheet_vehicle.specs.Told.{told_limit, told_vehicle};
 
-use sheet_format::Limit;
-use sheet_format::Rest;
-use sheet_format::number_before;
-use sheet_format::optional_before;
-use sheet_format::signed_before;
-use sheet_format::heading;
-use sheet_format::NumberAt;
-use sheet_format::OptionalAt;
-use sheet_format::SignedAt;
+use sheet_format::{
+    Limit, NumberAt, OptionalAt, Rest, SignedAt, heading, number_before, optional_before,
+    signed_before,
+};
 
 // Of the crates below, passed on to those above.
-pub use sheet_format::Vehicle;
-pub use sheet_format::Count;
-
+pub use sheet_format::{Count, Vehicle};
 
 #[derive(Clone, Copy)]
 pub enum LimitAt {

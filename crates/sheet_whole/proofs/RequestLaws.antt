@@ -5,7 +5,7 @@ use mathlib.Core.List.{List}
 use Rattle.sheet_draws.specs.plan.Plan.{Plan, Slices}
 use Rattle.sheet_draws.specs.sheet_text.Text.{refused, got, map_reading}
 use Rattle.sheet_draws.specs.sheet_format.Form.{Run, draws, routes, last_run, slices_of}
-use Rattle.sheet_draws.proofs.of_sheet_reader.FillLaws.{got_of, refused_of}
+use Rattle.sheet_draws.specs.SheetReaderFillLaws.{got_of, refused_of}
 use Rattle.sheet_whole.specs.Request.{request_of, request}
 
 module _ (s : List ℕ) (at : ℕ) where

@@ -5,7 +5,7 @@ use mathlib.Core.List.{List}
 use lib.ListN.{length}
 use Rattle.sheet_draws.specs.models.Problem.{Problem}
 use Rattle.sheet_draws.specs.sheet_text.Text.{Reading, refused, got, next}
-use Rattle.sheet_draws.proofs.of_sheet_text.ReadLaws.{next_got, next_refused}
+use Rattle.sheet_draws.specs.SheetTextReadLaws.{next_got, next_refused}
 use Rattle.sheet_draws.specs.sheet_format.Form.{Sheet, Run, whole_problem, draws, routes, last_run, slices_of, sections, sheet}
 use Rattle.sheet_draws.specs.sheet_format.Faults.{not_too_long}
 use Rattle.sheet_whole.specs.Request.{Request, request_of, request}

@@ -2,10 +2,9 @@
 ghost use Rattle.std.specs.Prelude.{◌≡◌, ◌≤◌, length};
 ghost use Rattle.sheet_whole.specs.Request.{request as Request·request, told_request, RequestWithin};
 
-use sheet_draws::draws;
+use sheet_draws::{Count, draws};
 use sheet_routes::routes::{PlanAt, routes};
 use sheet_run::{RunAt, last_run};
-use sheet_draws::Count;
 
 // How many draws, routes and stops there are, M, K, and the position after the sheet; or the number of a refusal.
 #[derive(Clone, Copy)]

@@ -7,3 +7,6 @@ pub use Rattle.length_checks.specs.plan as plan
 pub use Rattle.length_checks.specs.route_cost as route_cost
 pub use Rattle.length_checks.specs.local_search as local_search
 pub use Rattle.length_checks.specs.entry as entry
+-- and their laws
+pub use Rattle.length_checks.specs.LocalSearchReadLaws as LocalSearchReadLaws
+pub use Rattle.length_checks.specs.EntryAdmittedLaws as EntryAdmittedLaws

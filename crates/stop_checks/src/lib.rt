@@ -10,14 +10,10 @@ ghost use Rattle.length_checks.specs.entry.Table.{stop_passes, stops_pass};
 use length_checks::Vehicle;
 
 // Of the crates below, passed on to those above.
-pub use length_checks::Taken;
-pub use length_checks::Eval;
-pub use length_checks::RouteEval;
-pub use length_checks::break_schedule_schedule;
-pub use length_checks::evaluation_check;
-pub use length_checks::route_cost_gain_floor;
-pub use length_checks::route_cost_route_distance;
-pub use length_checks::bad_lengths;
+pub use length_checks::{
+    Eval, RouteEval, Taken, bad_lengths, break_schedule_schedule, evaluation_check,
+    route_cost_gain_floor, route_cost_route_distance,
+};
 
 // Whether x is one of the stops.
 fn contains(stops: &[u16], x: u16) -> bool

@@ -15,10 +15,10 @@ use borrow.Author.Rules.{rules}
 use Rattle.perturbation.specs.models.declared.vehicle.Vehicle.{Vehicle}
 use Rattle.perturbation.specs.models.Problem.{Problem, problem, of_demand, Stops}
 use Rattle.exchanged_stops.specs.plan.Plan.{Plan, Lent, HasStop, split, route, offset, exchange_stops}
-use Rattle.exchanged_stops.proofs.of_plan.Exchanges.{occurs_exchange_stops, number_exchange_stops, first_stop_still, second_stop_still, exchange_stops_twice}
+use Rattle.exchanged_stops.specs.PlanExchanges.{occurs_exchange_stops, number_exchange_stops, first_stop_still, second_stop_still, exchange_stops_twice}
 use Rattle.perturbation.specs.route_load.Feasible.{load, fits, checked, feasible}
 use Rattle.perturbation.specs.local_search.Planned.{Planned, planned_stops, planned_as}
-use Rattle.perturbation.proofs.of_route_cost.VisitLaws.{Visiting, part_end, part_end_fits, part_length_fits, part_is, part_stops}
+use Rattle.perturbation.specs.RouteCostVisitLaws.{Visiting, part_end, part_end_fits, part_length_fits, part_is, part_stops}
 use Rattle.perturbation.specs.Perturb.{stands, try_exchange}
 
 -- ---- route k, which begins at `at`

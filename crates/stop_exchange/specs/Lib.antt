@@ -7,3 +7,7 @@ pub use Rattle.exchanged_stops.specs.plan as plan
 pub use Rattle.perturbation.specs.route_load as route_load
 pub use Rattle.perturbation.specs.local_search as local_search
 pub use Rattle.perturbation.specs as perturbation
+-- and their laws
+pub use Rattle.exchanged_stops.specs.PlanExchanges as PlanExchanges
+pub use Rattle.exchanged_stops.specs.PlanPlanLaws as PlanPlanLaws
+pub use Rattle.perturbation.specs.RouteLoadFeasibleLaws as RouteLoadFeasibleLaws

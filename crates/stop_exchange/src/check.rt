@@ -9,10 +9,8 @@ ghost use Rattle.perturbation.specs.route_load.Feasible.{load, fits, checked};
 ghost use Rattle.perturbation.specs.local_search.Planned.{Planned};
 ghost use Rattle.perturbation.specs.Perturb.{stands};
 
-use perturbation::checked;
-use perturbation::Vehicle;
 use exchanged_stops::offset;
-use perturbation::within_capacity;
+use perturbation::{Vehicle, checked, within_capacity};
 
 // Whether the load of route k is within capacity.
 fn within_at(lengths: &[u16], stops: &[u16], k: usize, vehicle: Vehicle, demand: &[i32]) -> bool

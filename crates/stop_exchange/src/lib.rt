@@ -12,19 +12,12 @@ ghost use Rattle.perturbation.specs.Perturb.{try_exchange};
 use crate::check::both_feasible;
 use exchanged_stops::exchange_stops;
 
-
 pub mod check;
 
 // Of the crates below, passed on to those above.
-pub use perturbation::Vehicle;
-pub use exchanged_stops::copy_part;
-pub use exchanged_stops::offset;
-pub use perturbation::within_capacity;
-pub use perturbation::feasible;
-pub use perturbation::eject;
-pub use perturbation::draws::draw;
-pub use perturbation::draws::draw_bool;
-pub use perturbation::draws::other_than;
+pub use exchanged_stops::{copy_part, offset};
+pub use perturbation::draws::{draw, draw_bool, other_than};
+pub use perturbation::{Vehicle, eject, feasible, within_capacity};
 
 // The stop at i of route a and the stop at j of route b, another one, are exchanged; and exchanged back where one of the routes is not feasible then.
 pub fn try_exchange(

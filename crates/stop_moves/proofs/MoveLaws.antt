@@ -22,7 +22,7 @@ use Rattle.reinsertion.specs.reinsertion_candidates.Candidates.{candidates, by_c
 use Rattle.elimination_moves.specs.Eliminate.{move_stop}
 use Rattle.reinsertion.specs.reinsertion_candidates.Asked.{Asked, Room}
 use Rattle.stop_moves.specs.Moves.{so_far, Grown, place_inside, move_nowhere, move_there}
-use Rattle.reinsertion.proofs.of_reinsertion_worth.WorthLaws.{trial_stops}
+use Rattle.reinsertion.specs.ReinsertionWorthWorthLaws.{trial_stops}
 
 module _ (p : Problem) (m : Move) (ls s : List ℕ) (a : Asked p m) (best : Best)
     (e : chosen best ≡ first_passing p (split ls s) m.c m.added m.saved (by_cost (candidates p m.c (split ls s)))) where

@@ -20,7 +20,8 @@ use Rattle.stop_moves.specs.declared.Sum.TheVariants.{Nothing, At}
 use Rattle.reinsertion.specs.reinsertion_worth.Worth.{soft, insertion_worth}
 use Rattle.reinsertion.specs.reinsertion_candidates.Candidates.{candidates, by_cost, first_passing}
 use Rattle.elimination_moves.specs.Eliminate.{Moved, move_to, move_stop}
-use Rattle.reinsertion.specs.reinsertion_candidates.Place.{counts, comes_first, settles, look_at, look_through, look_over, unless_cut, place_is}
+use Rattle.reinsertion.specs.reinsertion_candidates.Place.{counts, comes_first, settles, look_at, look_through, look_over, unless_cut}
+use Rattle.reinsertion.specs.ReinsertionCandidatesPlaceIs.{place_is}
 
 -- the other routes so far, and what was added to their worth
 abbrev pub so_far : Plan → Float → Moved

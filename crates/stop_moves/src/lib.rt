@@ -8,26 +8,14 @@ ghost use Rattle.elimination_moves.specs.Eliminate.{move_stop};
 ghost use Rattle.reinsertion.specs.reinsertion_candidates.Asked.{Asked, Room};
 ghost use Rattle.stop_moves.specs.Moves.{so_far, held_by, Kept};
 
-
-use reinsertion::put_in;
-use reinsertion::place;
-
-use reinsertion::RouteCostBest as Best;
+use reinsertion::{RouteCostBest as Best, place, put_in};
 
 // Of the crates below, passed on to those above.
-pub use reinsertion::is_finite;
-pub use reinsertion::Vehicle;
-pub use reinsertion::has_soft_windows;
-pub use reinsertion::Pick;
-pub use reinsertion::next_pick;
-pub use reinsertion::route_cost_gain_floor;
-pub use reinsertion::constrained;
-pub use reinsertion::Counts;
-pub use reinsertion::LocalSearchNext;
-pub use reinsertion::Reduction;
-pub use reinsertion::worth;
-pub use reinsertion::Move;
 pub use elimination_moves::take_largest;
+pub use reinsertion::{
+    Counts, LocalSearchNext, Move, Pick, Reduction, Vehicle, constrained, has_soft_windows,
+    is_finite, next_pick, route_cost_gain_floor, worth,
+};
 
 // What was added to the worth of the other routes, or nothing once a stop has no place.
 #[derive(Clone, Copy)]

@@ -5,5 +5,4 @@ pub mod slices;
 pub mod text;
 
 // Of the crates below, passed on to those above.
-pub use stored_values::float_of;
-pub use stored_values::int_of;
+pub use stored_values::{float_of, int_of};

@@ -6,12 +6,7 @@ ghost use Rattle.planner_questions.specs.planner.Told.{replied_told};
 ghost use Rattle.planner_questions.specs.Told.{checked_told, evaluated_told, number_told};
 ghost use Rattle.stored_answers.specs.Answers.{stored, refusal_stored, checked_stored, number_stored, route_stored, eval_stored, evaluated_stored, window_stored, reply_stored};
 
-use planner_questions::Eval;
-use planner_questions::RouteEval;
-use planner_questions::Taken;
-use planner_questions::Window;
-use planner_questions::Replied;
-use planner_questions::{Checked, Evaluated, Number};
+use planner_questions::{Checked, Eval, Evaluated, Number, Replied, RouteEval, Taken, Window};
 use stored_values::bits_of;
 
 // An answer as seven numbers: a tag, which is 0 for a refusal, and what an answer with that tag holds, floats by their bits. What it lacks is 0.

@@ -9,7 +9,7 @@ use lib.Ieee.{Float}
 use Rattle.joined_tails.specs.models.declared.vehicle.Vehicle.{Vehicle}
 use Rattle.joined_tails.specs.models.Problem.{Problem, problem, of_demand}
 use Rattle.route_exchange.specs.plan.Plan.{Plan, Holds, HasPosition, split, route, total, non_empty, exchange_tails}
-use Rattle.route_exchange.proofs.of_plan.Exchanges.{first_exchange_tails, second_exchange_tails}
+use Rattle.route_exchange.specs.PlanExchanges.{first_exchange_tails, second_exchange_tails}
 use Rattle.joined_tails.specs.route_load.Feasible.{load, fits, feasible}
 use Rattle.joined_tails.specs.perturbation.Perturb.{try_tails}
 use Rattle.joined_tails.specs.perturbation.Parts.{joined, joined_stands}

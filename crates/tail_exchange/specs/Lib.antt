@@ -6,3 +6,5 @@ pub use Rattle.joined_tails.specs.evaluation as evaluation
 pub use Rattle.route_exchange.specs.plan as plan
 pub use Rattle.joined_tails.specs.local_search as local_search
 pub use Rattle.joined_tails.specs.perturbation as perturbation
+-- and their laws
+pub use Rattle.route_exchange.specs.PlanPlanLaws as PlanPlanLaws

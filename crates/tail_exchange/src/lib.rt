@@ -11,16 +11,10 @@ ghost use Rattle.joined_tails.specs.perturbation.Perturb.{try_tails};
 ghost use Rattle.joined_tails.specs.perturbation.Parts.{joined_stands};
 
 use joined_tails::{joined_stands, joined_within};
-
 use route_exchange::exchange_tails;
 
 // Of the crates below, passed on to those above.
-pub use joined_tails::Vehicle;
-pub use joined_tails::eject;
-pub use joined_tails::draw;
-pub use joined_tails::draw_bool;
-pub use joined_tails::other_than;
-pub use joined_tails::try_exchange;
+pub use joined_tails::{Vehicle, draw, draw_bool, eject, other_than, try_exchange};
 
 // Whether both routes stand after the tail of route a from i and the tail of route b from j are exchanged: a check is made only where both loads are
 // within capacity.

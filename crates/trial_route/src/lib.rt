@@ -8,54 +8,18 @@ ghost use Rattle.route_checks.specs.models.Problem.{matrix, Fit, Stops};
 ghost use Rattle.route_checks.specs.break_clock.Schedule.{ride_all, set_out as ride-out};
 ghost use Rattle.route_checks.specs.evaluation.Check.{reach_all, set_out, route_feasible};
 
-use route_checks::Ridden;
-use route_checks::Riding;
-use route_checks::ride_all;
-use route_checks::ride_home;
-use route_checks::Reached;
-use route_checks::Way;
-use route_checks::home_allowed;
-use route_checks::reach;
-use route_checks::reach_all;
-use route_checks::is_feasible;
+use route_checks::{
+    Reached, Ridden, Riding, Way, home_allowed, is_feasible, reach, reach_all, ride_all, ride_home,
+};
 
 // Of the crates below, passed on to those above.
-pub use route_checks::abs;
-pub use route_checks::infinity;
-pub use route_checks::is_finite;
-pub use route_checks::max;
-pub use route_checks::min;
-pub use route_checks::total_less;
-pub use route_checks::Customer;
-pub use route_checks::Penalty;
-pub use route_checks::Window;
-pub use route_checks::RouteLimits;
-pub use route_checks::Rest;
-pub use route_checks::Vehicle;
-pub use route_checks::VehicleBreak;
-pub use route_checks::customer_at;
-pub use route_checks::penalty_at;
-pub use route_checks::window_at;
-pub use route_checks::get;
-pub use route_checks::largest;
-pub use route_checks::scale;
-pub use route_checks::travel_time;
-pub use route_checks::Served;
-pub use route_checks::Taken;
-pub use route_checks::serve_at;
-pub use route_checks::Eval;
-pub use route_checks::RouteEval;
-pub use route_checks::break_schedule_schedule;
-pub use route_checks::evaluation_check;
-pub use route_checks::Left;
-pub use route_checks::evaluation_route_feasible;
-pub use route_checks::Walk;
-pub use route_checks::Walked;
-pub use route_checks::limited;
-pub use route_checks::has_soft_windows;
-pub use route_checks::route_checks_needed;
-
-
+pub use route_checks::{
+    Customer, Eval, Left, Penalty, Rest, RouteEval, RouteLimits, Served, Taken, Vehicle,
+    VehicleBreak, Walk, Walked, Window, abs, break_schedule_schedule, customer_at,
+    evaluation_check, evaluation_route_feasible, get, has_soft_windows, infinity, is_finite,
+    largest, limited, max, min, penalty_at, route_checks_needed, scale, serve_at, total_less,
+    travel_time, window_at,
+};
 
 // The walk of the route check over the front part of a route, up to position pos.
 fn reach_front(

@@ -17,7 +17,7 @@ use Rattle.latest_times.specs.models.Customer.{Customers}
 use Rattle.latest_times.specs.models.Problem.{DistanceMatrix, Fit, Stops}
 use Rattle.latest_times.specs.evaluation.declared.check.Left.{Left}
 use Rattle.latest_times.specs.evaluation.declared.check.Left.TheVariants.{Missed, At as LeftAt}
-use Rattle.latest_times.proofs.of_break_clock.StopLaws.{stop_laws}
+use Rattle.latest_times.specs.BreakClockStopLaws.{stop_laws}
 use Rattle.latest_times.specs.quick_test.Quick.{then_on, departures_from, departures}
 use Rattle.latest_times.specs.quick_test.Parts.{leave}
 

@@ -13,7 +13,7 @@ use borrow.Author.Rules.{scaled_Fits}
 use Rattle.latest_times.specs.floats.Binary64.{+∞}
 use Rattle.latest_times.specs.models.Customer.{Customers, customer_at}
 use Rattle.latest_times.specs.models.Problem.{DistanceMatrix, Fit, Stops}
-use Rattle.latest_times.proofs.of_break_clock.StopLaws.{stop_laws}
+use Rattle.latest_times.specs.BreakClockStopLaws.{stop_laws}
 use Rattle.latest_times.specs.quick_test.Quick.{latest_arrival, latest_arrivals}
 
 -- ---- the walk from the last stop to the first

@@ -8,33 +8,14 @@ ghost use Rattle.latest_times.specs.models.Problem.{matrix, Fit, Stops};
 ghost use Rattle.latest_times.specs.quick_test.Quick.{departures, latest_arrivals};
 ghost use Rattle.latest_times.specs.quick_test.Parts.{told};
 
-use latest_times::Left;
-use latest_times::infinity;
-use latest_times::latest_arrival;
-use latest_times::leave;
+use latest_times::{Left, infinity, latest_arrival, leave};
 
 // Of the crates below, passed on to those above.
-pub use latest_times::Vehicle;
-pub use latest_times::copy_part;
-pub use latest_times::offset;
-pub use latest_times::put_in;
-pub use latest_times::take_out;
-pub use latest_times::Pick;
-pub use latest_times::next_pick;
-pub use latest_times::RouteCostBest;
-pub use latest_times::Insertion;
-pub use latest_times::insertion_cost_insertion_cost;
-pub use latest_times::has_room;
-pub use latest_times::within_capacity;
-pub use latest_times::rounds;
-pub use latest_times::checked;
-pub use latest_times::constrained;
-pub use latest_times::feasible;
-pub use latest_times::trial_ok;
-pub use latest_times::Counts;
-pub use latest_times::LocalSearchNext;
-pub use latest_times::Reduction;
-pub use latest_times::may_fit;
+pub use latest_times::{
+    Counts, Insertion, LocalSearchNext, Pick, Reduction, RouteCostBest, Vehicle, checked,
+    constrained, copy_part, feasible, has_room, insertion_cost_insertion_cost, may_fit, next_pick,
+    offset, put_in, rounds, take_out, trial_ok, within_capacity,
+};
 
 // The time each stop of a route is left goes to the first cells; false where one is reached after its window closes.
 pub fn departures(

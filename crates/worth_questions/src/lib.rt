@@ -6,18 +6,13 @@ ghost use Rattle.planner_questions.specs.models.Problem.{problem};
 ghost use Rattle.planner_questions.specs.planner.Calls.{public_route_eval, public_effective_cost};
 ghost use Rattle.planner_questions.specs.Told.{evaluated_told, number_told};
 
-use planner_questions::Eval;
-use planner_questions::RouteLimits;
-
-use planner_questions::{Evaluated, Number};
-use planner_questions::route_refusal;
+use planner_questions::{Eval, Evaluated, Number, RouteLimits, route_refusal};
 
 // Of the crates below, passed on to those above.
-pub use planner_questions::Vehicle;
-pub use planner_questions::VehicleBreak;
-pub use planner_questions::route_distance as planner_questions_route_distance;
-pub use planner_questions::route_feasible as planner_questions_route_feasible;
-pub use planner_questions::schedule as planner_questions_schedule;
+pub use planner_questions::{
+    Vehicle, VehicleBreak, route_distance as planner_questions_route_distance,
+    route_feasible as planner_questions_route_feasible, schedule as planner_questions_schedule,
+};
 
 // The evaluation of a route.
 pub fn route_eval(

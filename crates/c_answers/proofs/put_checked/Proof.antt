@@ -4,7 +4,7 @@ use mathlib.Core.List.{[]}
 use Rattle.c_evaluations.specs.planner.Calls.{answered}
 use Rattle.c_evaluations.specs.planner_questions.Told.{checked_told}
 use Rattle.c_evaluations.specs.c_values.Said.{values}
-use Rattle.c_evaluations.proofs.of_c_values.AnswerLaws.{one_cell, put_refused, put_answered}
+use Rattle.c_evaluations.specs.CValuesAnswerLaws.{one_cell, put_refused, put_answered}
 use borrow.Author.Rules.{rules}
 use Rattle.c_answers.proofs.put_checked.Statement.{statement}
 use Rattle.c_answers.proofs.put_checked.Tie as tie

@@ -3,7 +3,7 @@ use mathlib.Core.Path.{ap}
 use mathlib.Core.List.{[]}
 use Rattle.c_evaluations.specs.planner.Told.{replied_told}
 use Rattle.c_evaluations.specs.c_values.Said.{values}
-use Rattle.c_evaluations.proofs.of_c_values.AnswerLaws.{put_refused, put_answered}
+use Rattle.c_evaluations.specs.CValuesAnswerLaws.{put_refused, put_answered}
 use borrow.Author.Rules.{rules}
 use Rattle.c_answers.proofs.put_reply.Statement.{statement}
 use Rattle.c_answers.proofs.put_reply.Tie as tie

@@ -1,5 +1,5 @@
 -- `put_window` meets its contract.
-use Rattle.c_evaluations.proofs.of_c_values.AnswerLaws.{window_none, window_some}
+use Rattle.c_evaluations.specs.CValuesAnswerLaws.{window_none, window_some}
 use borrow.Author.Rules.{rules}
 use Rattle.c_answers.proofs.put_window.Statement.{statement}
 use Rattle.c_answers.proofs.put_window.Tie as tie

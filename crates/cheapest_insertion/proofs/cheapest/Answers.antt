@@ -1,7 +1,7 @@
 -- `cheapest` meets its contract: what the check does not find alone.
 use Prim.Native.Nat.{◌-◌}
 use borrow.Author.Rules.{rules}
-use Rattle.route_insertion.proofs.of_route_cost.VisitLaws.{part_end, part_stops}
+use Rattle.route_insertion.specs.RouteCostVisitLaws.{part_end, part_stops}
 use Rattle.cheapest_insertion.proofs.PlanLaws.{seeking_laws}
 use Rattle.cheapest_insertion.proofs.cheapest.Goals as goal
 

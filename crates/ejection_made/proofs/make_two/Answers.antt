@@ -7,5 +7,5 @@ pub replace-x-requires : goal.replace-x-requires
 replace-x-requires c = record { lent = out_lent _ _ _ _ c.requires.lent (second_stop _ _ c.requires.inside.0) _ _ c.take_out-y.ensures.plan c.take_out-y.auto.stops; has_stop = (two_stop _ _ c.requires.inside.0 _ _ _ c.take_out-y.ensures.plan c.requires.inside.1, two_position _ _ c.requires.inside.0 _ _ _ c.take_out-y.ensures.plan c.requires.inside.1) }
 
 pub returns : goal.returns
-returns c =    made_two _ _ c.requires.inside.0 _ _ _ c.take_out-y.ensures.plan c.requires.inside.1 _ _ _ _ _ _ _ _ c.requires.inside.2 c.replace-x.ensures.stop c.take_out-y.ensures.stop c.replace-x.ensures.plan
+returns c = made_two _ _ c.requires.inside.0 _ _ _ c.take_out-y.ensures.plan c.requires.inside.1 _ _ _ _ _ _ _ _ c.requires.inside.2 c.replace-x.ensures.stop c.take_out-y.ensures.stop c.replace-x.ensures.plan
     (omega (arith, has_one _ _ _ _ c.requires.lent (second_stop _ _ c.requires.inside.0)))

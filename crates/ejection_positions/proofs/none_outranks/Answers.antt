@@ -15,10 +15,10 @@ loop-pos-init c = search every_laws
 
 pub returns-then-outranks : goal.returns-then-outranks
 unfolding none_outranks
-returns-then-outranks c =    failed_one _ _ _ c.loop-pos.invariant _ (omega arith) (rank_told _ _ c.args.failed _ _ _ (chosen c.args.best) _ _ c.insertion_cost-cost.ensures c.outranks.ensures) (ap not c.if-outranks.true)
+returns-then-outranks c = failed_one _ _ _ c.loop-pos.invariant _ (omega arith) (rank_told _ _ c.args.failed _ _ _ (chosen c.args.best) _ _ c.insertion_cost-cost.ensures c.outranks.ensures) (ap not c.if-outranks.true)
 
 pub loop-pos-preserved : goal.loop-pos-preserved
-loop-pos-preserved c =    passed_one _ _ _ c.loop-pos.invariant _ (omega arith) (rank_told _ _ c.args.failed _ _ _ (chosen c.args.best) _ _ c.insertion_cost-cost.ensures c.outranks.ensures) (ap not c.if-outranks.false)
+loop-pos-preserved c = passed_one _ _ _ c.loop-pos.invariant _ (omega arith) (rank_told _ _ c.args.failed _ _ _ (chosen c.args.best) _ _ c.insertion_cost-cost.ensures c.outranks.ensures) (ap not c.if-outranks.false)
 
 pub returns : goal.returns
 unfolding none_outranks

@@ -1,11 +1,11 @@
 -- `try_left` meets its contract: what the check does not find alone.
 use native.Mathlib.Omega.{arith}
-use Rattle.ejection.proofs.of_route_load.FeasibleLaws.{demands_own, stops_own, place_own}
+use Rattle.ejection.specs.RouteLoadFeasibleLaws.{demands_own, stops_own, place_own}
 use Rattle.ejection_positions.proofs.PositionLaws.{kept_laws}
 use Rattle.ejection_positions.proofs.try_left.Goals as goal
 
 pub has_room-requires : goal.has_room-requires
-has_room-requires c =    (demands_own _ _ c.requires.admitted.demands, stops_own _ _ c.requires.admitted.demands _ c.requires.c_lt_n.1, place_own _ _ c.requires.admitted.demands _ c.requires.c_lt_n.0)
+has_room-requires c = (demands_own _ _ c.requires.admitted.demands, stops_own _ _ c.requires.admitted.demands _ c.requires.c_lt_n.1, place_own _ _ c.requires.admitted.demands _ c.requires.c_lt_n.0)
 
 pub returns-then-none_outranks : goal.returns-then-none_outranks
 returns-then-none_outranks c = search kept_laws

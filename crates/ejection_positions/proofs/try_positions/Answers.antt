@@ -1,7 +1,7 @@
 -- `try_positions` meets its contract: what the check does not find alone.
 use native.Mathlib.Omega.{arith}
 use Prim.Native.Nat.{◌-◌}
-use Rattle.ejection.proofs.of_insertion.AlongLaws.{along_more, along_laws}
+use Rattle.ejection.specs.InsertionAlongLaws.{along_more, along_laws}
 use borrow.Author.Rules.{rules}
 use Rattle.ejection_positions.proofs.try_positions.Goals as goal
 

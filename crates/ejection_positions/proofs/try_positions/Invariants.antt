@@ -3,7 +3,7 @@ use Prim.Native.Nat.{suc, ◌-◌}
 use mathlib.Core.List.{[]}
 use lib.ListN.{length}
 use Rattle.ejection.specs.models.Problem.{problem}
-use Rattle.ejection.proofs.of_insertion.AlongLaws.{Along}
+use Rattle.ejection.specs.InsertionAlongLaws.{Along}
 use Rattle.ejection.specs.Eject.{chosen}
 use Rattle.ejection_positions.proofs.PositionLaws.{pass_out}
 use Rattle.ejection_positions.proofs.try_positions.Given as goal

@@ -1,12 +1,12 @@
 -- `eject_some` meets its contract: what the check does not find alone.
 use Prim.Native.Nat.{◌-◌}
-use Rattle.route_ejection.proofs.of_route_cost.VisitLaws.{part_end, part_end_fits}
+use Rattle.route_ejection.specs.RouteCostVisitLaws.{part_end, part_end_fits}
 use Rattle.ejection_search.proofs.SearchLaws.{over_start, over_sought, over_more, over_end}
 use native.Mathlib.Omega.{arith}
 use Rattle.ejection_search.proofs.eject_some.Goals as goal
 
 pub loop-k-init : goal.loop-k-init
-loop-k-init c =    over_start _ _ _ _ _ _ _ _ _ c.requires.admitted c.requires.lent.0 c.requires.lent.1 c.requires.lent.2 c.requires.lent.3 c.requires.lent.4 c.requires.lent.5 c.requires.lent.6
+loop-k-init c = over_start _ _ _ _ _ _ _ _ _ c.requires.admitted c.requires.lent.0 c.requires.lent.1 c.requires.lent.2 c.requires.lent.3 c.requires.lent.4 c.requires.lent.5 c.requires.lent.6
 
 pub overflow_add-end : goal.overflow_add-end
 overflow_add-end c = part_end_fits _ _ _ _ _ c.loop-k.invariant.visit c.loop-k-test.true
@@ -18,7 +18,7 @@ pub overflow_add-k : goal.overflow_add-k
 overflow_add-k c = omega (arith, c.well_formed, c.loop-k-test.true)
 
 pub loop-k-preserved : goal.loop-k-preserved
-loop-k-preserved c =    over_more _ _ _ _ _ _ _ _ _ _ _ _ _ _ c.loop-k.invariant _ _ _ c.loop-k-test.true c.try_part-best.auto.work c.try_part-best.auto.cells c.try_part-best.ensures
+loop-k-preserved c = over_more _ _ _ _ _ _ _ _ _ _ _ _ _ _ c.loop-k.invariant _ _ _ c.loop-k-test.true c.try_part-best.auto.work c.try_part-best.auto.cells c.try_part-best.ensures
 
 pub returns : goal.returns
 returns c = over_end _ _ _ _ _ _ _ _ _ _ _ _ _ _ c.loop-k.invariant (omega arith)

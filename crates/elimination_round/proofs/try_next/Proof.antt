@@ -2,7 +2,7 @@
 use mathlib.Core.Path.{refl}
 use native.Mathlib.Omega.{arith}
 use borrow.Author.Rules.{rules}
-use Rattle.elimination_attempt.proofs.of_local_search.NextLaws.{no_pick}
+use Rattle.elimination_attempt.specs.LocalSearchNextLaws.{no_pick}
 use Rattle.elimination_round.proofs.NextLaws.{next_attempted, route_kept, route_gone}
 use Rattle.elimination_round.proofs.try_next.Statement.{statement}
 use Rattle.elimination_round.proofs.try_next.Tie as tie

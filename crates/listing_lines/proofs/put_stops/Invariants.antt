@@ -1,7 +1,7 @@
 -- What the loops of `put_stops` keep.
 use Prim.Native.Nat.{◌≤◌, ◌-◌}
 use lib.ListN.{length, drop}
-use Rattle.listing_numbers.proofs.of_listing.WriteLaws.{Writing}
+use Rattle.listing_numbers.specs.ListingWriteLaws.{Writing}
 use Rattle.listing_lines.proofs.put_stops.Given as goal
 
 abbrev pub invariant-loop-i : goal.invariant-loop-i

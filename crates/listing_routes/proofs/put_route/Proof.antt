@@ -1,6 +1,6 @@
 -- `put_route` meets its contract. Assumes nothing.
 use borrow.Author.Rules.{rules}
-use Rattle.listing_lines.proofs.of_route_load.FeasibleLaws.{demands_own, stops_own}
+use Rattle.listing_lines.specs.RouteLoadFeasibleLaws.{demands_own, stops_own}
 use Rattle.listing_routes.proofs.LineLaws.{line_casts, line_room, line_written}
 use Rattle.listing_routes.proofs.put_route.Statement.{statement}
 use Rattle.listing_routes.proofs.put_route.Tie as tie

@@ -3,7 +3,7 @@ use Prim.Native.Nat.{◌-◌}
 use native.Mathlib.Omega.{arith}
 use lib.ListN.{length}
 use borrow.Author.Rules.{rules}
-use Rattle.listing_lines.proofs.of_route_cost.VisitLaws.{part_end, part_end_fits, part_length_fits}
+use Rattle.listing_lines.specs.RouteCostVisitLaws.{part_end, part_end_fits, part_length_fits}
 use Rattle.listing_routes.proofs.LineLaws.{Lining, lining_start, lining_stops, lining_prints, lining_room, lining-more, lining_end}
 use Rattle.listing_routes.proofs.put_routes.Statement.{statement}
 use Rattle.listing_routes.proofs.put_routes.Tie as tie

@@ -1,6 +1,6 @@
 -- `round::begin` meets its contract.
 use borrow.Author.Rules.{rules}
-use Rattle.minimization.proofs.of_local_search.NextLaws.{count_within, begun_lent, begun_planned}
+use Rattle.minimization.specs.LocalSearchNextLaws.{count_within, begun_lent, begun_planned}
 use Rattle.minimization_round.proofs.NextLaws.{begun_cost}
 use Rattle.minimization_round.proofs.begin.Statement.{statement}
 use Rattle.minimization_round.proofs.begin.Tie as tie

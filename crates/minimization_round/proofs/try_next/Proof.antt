@@ -1,7 +1,7 @@
 -- `round::try_next` meets its contract.
 use mathlib.Core.Path.{refl}
 use borrow.Author.Rules.{rules}
-use Rattle.minimization.proofs.of_local_search.NextLaws.{no_pick, pick_there}
+use Rattle.minimization.specs.LocalSearchNextLaws.{no_pick, pick_there}
 use Rattle.minimization_round.proofs.NextLaws.{pool_kept, pool_accepted}
 use Rattle.minimization_round.proofs.try_next.Statement.{statement}
 use Rattle.minimization_round.proofs.try_next.Tie as tie

@@ -7,7 +7,7 @@ use Rattle.minimization_round.specs.plan.Plan.{split, drop_zero}
 use Rattle.minimization_round.specs.route_order.Order.{following}
 use Rattle.minimization_round.specs.ejection_pool.Running.{allowance}
 use Rattle.minimization_round.specs.route_cost.Route.{cost}
-use Rattle.minimization_round.proofs.of_local_search.SearchLaws.{Rounding, Trying, rounding_start, round_lent, round_same, trying_start, front_length, front_in, trying_routes, trying_routes_few, back_long, at_end, after_kept_less, after_kept, after_accepted_less, after_accepted}
+use Rattle.minimization_round.specs.LocalSearchSearchLaws.{Rounding, Trying, rounding_start, round_lent, round_same, trying_start, front_length, front_in, trying_routes, trying_routes_few, back_long, at_end, after_kept_less, after_kept, after_accepted_less, after_accepted}
 use Rattle.minimization_round.specs.pool_cost.Attempt.{attempt}
 use Rattle.minimization_round.specs.minimization.Attempted.{attempt_reduces}
 use Rattle.minimization_round.proofs.NextLaws.{round_cost}

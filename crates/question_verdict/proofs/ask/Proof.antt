@@ -1,7 +1,7 @@
 -- `ask` meets its contract. Assumes nothing.
 use borrow.Author.Rules.{rules}
 use Rattle.problem_questions.specs.laws.Picks.{picks}
-use Rattle.same_answers.proofs.of_stored_answers.AnswerLaws.{asks}
+use Rattle.same_answers.specs.StoredAnswersAnswerLaws.{asks}
 use Rattle.question_verdict.specs.Asked.{question}
 use Rattle.question_verdict.proofs.ask.Statement.{statement}
 use Rattle.question_verdict.proofs.ask.Tie as tie

@@ -1,6 +1,6 @@
 -- `question_agrees` meets its contract. Assumes nothing.
 use borrow.Author.Rules.{rules}
-use Rattle.same_answers.proofs.of_stored_answers.AnswerLaws.{asked_same}
+use Rattle.same_answers.specs.StoredAnswersAnswerLaws.{asked_same}
 use Rattle.question_verdict.proofs.question_agrees.Statement.{statement}
 use Rattle.question_verdict.proofs.question_agrees.Tie as tie
 

@@ -7,7 +7,7 @@ pub values_pass-requires : goal.values_pass-requires
 values_pass-requires c = via _ _ _ c.sizes_pass.ensures c.if-sizes_pass.true
 
 pub windows_pass-requires : goal.windows_pass-requires
-windows_pass-requires c =    let e = via _ _ _ c.sizes_pass.ensures c.if-sizes_pass.true in
+windows_pass-requires c = let e = via _ _ _ c.sizes_pass.ensures c.if-sizes_pass.true in
     (ready_flags _ e, due_flags _ e)
 
 pub returns-then-vehicle-n : goal.returns-then-vehicle-n

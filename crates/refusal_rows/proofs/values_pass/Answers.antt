@@ -5,7 +5,7 @@ use Rattle.refusal_rows.proofs.GroupLaws.{ready_demand, due_demand, penalty_dema
 use Rattle.refusal_rows.proofs.values_pass.Goals as goal
 
 pub places_pass-requires : goal.places_pass-requires
-places_pass-requires c =    (ready_demand _ c.requires, due_demand _ c.requires, penalty_demand _ c.requires, flags_demand _ c.requires)
+places_pass-requires c = (ready_demand _ c.requires, due_demand _ c.requires, penalty_demand _ c.requires, flags_demand _ c.requires)
 
 pub returns-then-amounts_pass-3 : goal.returns-then-amounts_pass-3
 unfolding values_pass

@@ -1,7 +1,7 @@
 -- `look_over` meets its contract: what the check does not find alone.
 use Prim.Native.Nat.{◌-◌}
 use borrow.Author.Rules.{rules}
-use Rattle.reinsertion_candidates.proofs.of_route_cost.VisitLaws.{part_end, part_stops}
+use Rattle.reinsertion_candidates.specs.RouteCostVisitLaws.{part_end, part_stops}
 use Rattle.reinsertion.proofs.OverLaws.{seeking_few, seeking_laws}
 use Rattle.reinsertion.proofs.look_over.Goals as goal
 
@@ -12,7 +12,7 @@ pub overflow_add-end : goal.overflow_add-end
 overflow_add-end c = search seeking_laws
 
 pub look_part-best-requires : goal.look_part-best-requires
-look_part-best-requires c =    (c.loop-k.invariant.asked, search rules, search part_end, search part_stops, search seeking_few)
+look_part-best-requires c = (c.loop-k.invariant.asked, search rules, search part_end, search part_stops, search seeking_few)
 
 pub loop-k-preserved : goal.loop-k-preserved
 loop-k-preserved c = search seeking_laws

@@ -1,7 +1,7 @@
 -- `drive_all` meets its contract: what the check does not find alone.
 use Prim.Native.Nat.{◌-◌}
 use Rattle.route_drive.proofs.DriveLaws.{driving_laws}
-use Rattle.trial_route.proofs.of_break_clock.StopLaws.{stop_laws}
+use Rattle.trial_route.specs.BreakClockStopLaws.{stop_laws}
 use Rattle.route_drive.proofs.drive_all.Goals as goal
 
 pub loop-i-init : goal.loop-i-init

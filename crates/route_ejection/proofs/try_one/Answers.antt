@@ -13,7 +13,7 @@ pub try_out-found-requires : goal.try_out-found-requires
 try_out-found-requires c = record { sought = c.loop-i.invariant.sought; route_in_bounds = (c.loop-i.invariant.work_room, c.loop-i.invariant.cells_room, search rules, search rules) }
 
 pub loop-i-preserved : goal.loop-i-preserved
-loop-i-preserved c =    seeking_more _ _ _ _ _ _ _ _ _ _ _ _ _ _ c.loop-i.invariant _ _ _ c.loop-i-test.true c.try_out-found.auto.work c.try_out-found.auto.cells c.try_out-found.ensures
+loop-i-preserved c = seeking_more _ _ _ _ _ _ _ _ _ _ _ _ _ _ c.loop-i.invariant _ _ _ c.loop-i-test.true c.try_out-found.auto.work c.try_out-found.auto.cells c.try_out-found.ensures
 
 pub returns : goal.returns
 returns c = one_is _ _ _ _ _ _ _ (seeking_end _ _ _ _ _ _ _ _ _ _ _ _ _ _ c.loop-i.invariant (omega arith))

@@ -4,7 +4,7 @@ use Rattle.route_ejection.proofs.LeaveLaws.{counted_own, stops_own, kept_part, o
 use Rattle.route_ejection.proofs.try_out.Goals as goal
 
 pub failure_sum-failed-requires : goal.failure_sum-failed-requires
-failure_sum-failed-requires c =    (counted_own _ _ c.requires.sought.counted, stops_own _ _ c.requires.sought.counted _ c.requires.sought.stops, c.requires.route_in_bounds.2, c.requires.route_in_bounds.3)
+failure_sum-failed-requires c = (counted_own _ _ c.requires.sought.counted, stops_own _ _ c.requires.sought.counted _ c.requires.sought.stops, c.requires.route_in_bounds.2, c.requires.route_in_bounds.3)
 
 pub returns-then-fails_more : goal.returns-then-fails_more
 returns-then-fails_more c = out_more _ _ _ _ _ _ _ _ _ _ c.failure_sum-failed.ensures c.fails_more.ensures c.if-fails_more.true
@@ -20,5 +20,5 @@ pub shape_of-work : goal.shape_of-work
 shape_of-work c = c.keep-m.auto.work
 
 pub returns : goal.returns
-returns c =    out_tried _ _ _ _ _ _ _ _ _ _ c.failure_sum-failed.ensures c.fails_more.ensures _ c.if-fails_more.false
+returns c = out_tried _ _ _ _ _ _ _ _ _ _ c.failure_sum-failed.ensures c.fails_more.ensures _ c.if-fails_more.false
     (rw (kept_part _ _ _ _ _ c.requires.route_in_bounds.2 c.requires.route_in_bounds.3 c.keep-m.ensures.1 c.keep-m.ensures.0) at c.try_left.ensures)

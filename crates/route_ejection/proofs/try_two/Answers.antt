@@ -13,7 +13,7 @@ pub try_two_from-found-requires : goal.try_two_from-found-requires
 try_two_from-found-requires c = record { sought = c.loop-i.invariant.sought; route_in_bounds = (c.loop-i.invariant.work_room, c.loop-i.invariant.cells_room, search rules) }
 
 pub loop-i-preserved : goal.loop-i-preserved
-loop-i-preserved c =    seeking_more _ _ _ _ _ _ _ _ _ _ _ _ _ _ c.loop-i.invariant _ _ _ c.loop-i-test.true c.try_two_from-found.auto.work c.try_two_from-found.auto.cells c.try_two_from-found.ensures
+loop-i-preserved c = seeking_more _ _ _ _ _ _ _ _ _ _ _ _ _ _ c.loop-i.invariant _ _ _ c.loop-i-test.true c.try_two_from-found.auto.work c.try_two_from-found.auto.cells c.try_two_from-found.ensures
 
 pub returns : goal.returns
 returns c = two_is _ _ _ _ _ _ _ (seeking_end _ _ _ _ _ _ _ _ _ _ _ _ _ _ c.loop-i.invariant (omega arith))

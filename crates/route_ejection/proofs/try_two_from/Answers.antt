@@ -13,7 +13,7 @@ pub try_out-found-requires : goal.try_out-found-requires
 try_out-found-requires c = record { sought = c.loop-d.invariant.sought; route_in_bounds = (c.loop-d.invariant.work_room, c.loop-d.invariant.cells_room, search rules, search rules) }
 
 pub loop-d-preserved : goal.loop-d-preserved
-loop-d-preserved c =    seeking_more _ _ _ _ _ _ _ _ _ _ _ _ _ _ c.loop-d.invariant _ _ _ c.loop-d-test.true c.try_out-found.auto.work c.try_out-found.auto.cells c.try_out-found.ensures
+loop-d-preserved c = seeking_more _ _ _ _ _ _ _ _ _ _ _ _ _ _ c.loop-d.invariant _ _ _ c.loop-d-test.true c.try_out-found.auto.work c.try_out-found.auto.cells c.try_out-found.ensures
 
 pub returns : goal.returns
 returns c = two_from_is _ _ _ _ _ _ _ _ (seeking_end _ _ _ _ _ _ _ _ _ _ _ _ _ _ c.loop-d.invariant (omega arith))

@@ -7,7 +7,7 @@ use Rattle.elimination_round.specs.models.Problem.{problem}
 use Rattle.elimination_round.specs.plan.Plan.{drop_zero}
 use Rattle.elimination_round.specs.route_order.Order.{following}
 use Rattle.elimination_round.specs.local_search.Search.{uncounted}
-use Rattle.elimination_round.proofs.of_local_search.SearchLaws.{Rounding, Trying, rounding_start, round_same, trying_start, front_length, front_in, back_long, at_end, after_kept_less, after_accepted_less}
+use Rattle.elimination_round.specs.LocalSearchSearchLaws.{Rounding, Trying, rounding_start, round_same, trying_start, front_length, front_in, back_long, at_end, after_kept_less, after_accepted_less}
 use Rattle.elimination_round.specs.elimination_moves.Eliminate.{attempt}
 use Rattle.elimination_round.specs.elimination_moves.Eliminated.{attempt_reduces}
 use Rattle.route_elimination.proofs.EliminateLaws.{trying_eliminating, after_refused, after_gone, rounds_answer}

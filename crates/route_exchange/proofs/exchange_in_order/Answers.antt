@@ -36,7 +36,7 @@ pub overflow_add-q-2 : goal.overflow_add-q-2
 overflow_add-q-2 c = search (rules, tails_laws)
 
 pub swap_parts-requires : goal.swap_parts-requires
-swap_parts-requires c =    (search first_in_order, search tails_in_order, search second_in_order, search tails_there, search tails_kept)
+swap_parts-requires c = (search first_in_order, search tails_in_order, search second_in_order, search tails_there, search tails_kept)
 
 pub overflow_sub-lengths : goal.overflow_sub-lengths
 overflow_sub-lengths c = search (rules, tails_laws)

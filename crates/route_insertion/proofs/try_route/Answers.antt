@@ -1,11 +1,11 @@
 -- `try_route` meets its contract: what the check does not find alone.
 use native.Mathlib.Omega.{arith}
-use Rattle.insertion.proofs.of_route_load.FeasibleLaws.{demands_own, stops_own, place_own}
+use Rattle.insertion.specs.RouteLoadFeasibleLaws.{demands_own, stops_own, place_own}
 use Rattle.route_insertion.proofs.RouteLaws.{route_laws}
 use Rattle.route_insertion.proofs.try_route.Goals as goal
 
 pub has_room-room-requires : goal.has_room-room-requires
-has_room-room-requires c =    (demands_own _ _ c.requires.admitted.demands, stops_own _ _ c.requires.admitted.demands _ c.requires.c_lt_n.1, place_own _ _ c.requires.admitted.demands _ c.requires.c_lt_n.0)
+has_room-room-requires c = (demands_own _ _ c.requires.admitted.demands, stops_own _ _ c.requires.admitted.demands _ c.requires.c_lt_n.1, place_own _ _ c.requires.admitted.demands _ c.requires.c_lt_n.0)
 
 pub try_positions-requires : goal.try_positions-requires
 try_positions-requires c = record { fit = c.requires.admitted.fit; depot_id_bound = (c.requires.admitted.depot_in, c.requires.c_lt_n.0, c.requires.c_lt_n.1, omega (arith, c.requires.c_lt_n.2, c.prepare-in_time.auto.cells), c.requires.c_lt_n.3) }

@@ -9,7 +9,7 @@ pub loop-k-init : goal.loop-k-init
 loop-k-init c = search keeping_laws
 
 pub overflow_add-r : goal.overflow_add-r
-overflow_add-r c =    let L = c.loop-k in omega (arith, counted_few (get_or L.lengths L.k 0) c.counted-r.result c.counted-r.ensures)
+overflow_add-r c = let L = c.loop-k in omega (arith, counted_few (get_or L.lengths L.k 0) c.counted-r.result c.counted-r.ensures)
 
 pub loop-k-preserved : goal.loop-k-preserved
 loop-k-preserved c = search keeping_laws

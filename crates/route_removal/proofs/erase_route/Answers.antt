@@ -1,6 +1,6 @@
 -- `erase_route` meets its contract: what the check does not find alone.
 use borrow.Author.Rules.{rules}
-use Rattle.route_exchange.proofs.of_plan.PlanLaws.{place_laws}
+use Rattle.route_exchange.specs.PlanPlanLaws.{place_laws}
 use Rattle.route_removal.proofs.RemovalLaws.{erase_laws}
 use Rattle.route_removal.proofs.erase_route.Goals as goal
 

@@ -1,6 +1,6 @@
 -- `saved_by` meets its contract.
 use borrow.Author.Rules.{rules}
-use Rattle.emptied_route.proofs.of_route_cost.VisitLaws.{part_end, part_end_fits, part_length_fits, part_stops}
+use Rattle.emptied_route.specs.RouteCostVisitLaws.{part_end, part_end_fits, part_length_fits, part_stops}
 use Rattle.emptied_route.proofs.EmptiedLaws.{attempt_visit}
 use Rattle.route_saving.proofs.SavedLaws.{saved_is}
 use Rattle.route_saving.proofs.saved_by.Statement.{statement}

@@ -2,7 +2,7 @@
 use mathlib.Core.Path.{◌∙◌}
 use native.Mathlib.Omega.{arith}
 use borrow.Author.Rules.{rules}
-use Rattle.sheet_elimination.proofs.of_sheet_answers.ListedLaws.{refusal_room, written_as, minimise_refuses, minimise_goes_on}
+use Rattle.sheet_elimination.specs.SheetAnswersListedLaws.{refusal_room, written_as, minimise_refuses, minimise_goes_on}
 use Rattle.sheet_calls.proofs.list_planned.Statement.{statement}
 use Rattle.sheet_calls.proofs.list_planned.Tie as tie
 

@@ -2,11 +2,11 @@
 use native.Mathlib.Omega.{arith}
 use Rattle.sheet_reader.specs.sheet_format.Form.{draws}
 use Rattle.sheet_reader.proofs.SectionLaws.{sections, count_within}
-use Rattle.sheet_reader.proofs.of_sheet_text.ReadLaws.{readings}
+use Rattle.sheet_reader.specs.SheetTextReadLaws.{readings}
 use Rattle.sheet_draws.proofs.draws.Goals as goal
 
 pub draw_rows-requires : goal.draw_rows-requires
-draw_rows-requires c =    omega (arith, c.requires, (count_within _ _ _ _ _ _ _ _ _ c.in-Got.is c.heading-h.ensures).1)
+draw_rows-requires c = omega (arith, c.requires, (count_within _ _ _ _ _ _ _ _ _ c.in-Got.is c.heading-h.ensures).1)
 
 pub returns-in_default : goal.returns-in_default
 unfolding draws

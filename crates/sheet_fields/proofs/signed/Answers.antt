@@ -23,7 +23,7 @@ pub overflow_sub-result : goal.overflow_sub-result
 overflow_sub-result c = neg_fits _ (subst Short c.in-Got.is c.number.ensures.short)
 
 pub returns-then-x-eq45 : goal.returns-then-x-eq45
-returns-then-x-eq45 c =    let n = c.number in let t = c.in-Got.is in ap (λ (z : ℤ). got z c.in-Got.i) (neg_back _ (subst Short t n.ensures.short))
+returns-then-x-eq45 c = let n = c.number in let t = c.in-Got.is in ap (λ (z : ℤ). got z c.in-Got.i) (neg_back _ (subst Short t n.ensures.short))
     ∙ signed_minus _ _ _ c.peek-x.ensures.value c.if-x-eq45.true _ _ (number_at _ _ _ _ t n.ensures.result_value)
 
 pub returns-in_default-number : goal.returns-in_default-number
@@ -33,5 +33,5 @@ pub overflow_cast-result-2 : goal.overflow_cast-result-2
 overflow_cast-result-2 c = pos_fits _ (subst Short c.in-Got-number.is c.number-2.ensures.short)
 
 pub returns : goal.returns
-returns c =    let n = c.number-2 in let t = c.in-Got-number.is in ap (λ (z : ℤ). got z c.in-Got-number.i) (to_z_pos w32 (pos_fits _ (subst Short t n.ensures.short)).sfits)
+returns c = let n = c.number-2 in let t = c.in-Got-number.is in ap (λ (z : ℤ). got z c.in-Got-number.i) (to_z_pos w32 (pos_fits _ (subst Short t n.ensures.short)).sfits)
     ∙ signed_plain _ _ _ c.peek-x.ensures.value c.if-x-eq45.false _ _ (number_at _ _ _ _ t n.ensures.result_value)

@@ -2,10 +2,10 @@
 use native.Mathlib.Nat.{le_of_eq, le_trans}
 use borrow.Author.Rules.{rules}
 use mathlib.Core.Path.{sym, subst, ◌∙◌}
-use Rattle.sheet_parts.proofs.of_sheet_text.ReadLaws.{told}
+use Rattle.sheet_parts.specs.SheetTextReadLaws.{told}
 use Rattle.sheet_parts.specs.sheet_whole.Whole.{told_sheet, SheetWithin}
-use Rattle.sheet_parts.proofs.of_sheet_laws.Read.{sheet_holds}
-use Rattle.sheet_parts.proofs.of_sheet_answers.ListedLaws.{refusal_room, written_as, reader_refuses, reader_goes_on}
+use Rattle.sheet_parts.specs.SheetLawsRead.{sheet_holds}
+use Rattle.sheet_parts.specs.SheetAnswersListedLaws.{refusal_room, written_as, reader_refuses, reader_goes_on}
 use Rattle.sheet_listing.proofs.list_read.Statement.{statement}
 use Rattle.sheet_listing.proofs.list_read.Tie as tie
 

@@ -5,7 +5,7 @@ use borrow.Author.Rules.{rules}
 use Prim.Native.Nat.{◌≤◌}
 use mathlib.Core.Path.{sym}
 use lib.Seq.{length-take-le}
-use Rattle.sheet_whole.proofs.of_sheet_problem.ProblemLaws.{square_fits}
+use Rattle.sheet_whole.specs.SheetProblemProblemLaws.{square_fits}
 use Rattle.sheet_parts.proofs.list_parts.Statement.{statement}
 use Rattle.sheet_parts.proofs.list_parts.Tie as tie
 

@@ -6,7 +6,7 @@ use Rattle.sheet_roads.specs.sheet_reader.Cells.{AtMost, filled_places}
 use Rattle.sheet_roads.specs.Roads.{filled_roads}
 use Rattle.sheet_vehicle.specs.Told.{told_vehicle}
 use Rattle.sheet_rest.specs.Told.{told_rest}
-use Rattle.sheet_vehicle.proofs.of_sheet_text.ReadLaws.{told}
+use Rattle.sheet_vehicle.specs.SheetTextReadLaws.{told}
 use Rattle.sheet_problem.proofs.problem.Goals as goal
 
 pub roads-m-requires : goal.roads-m-requires

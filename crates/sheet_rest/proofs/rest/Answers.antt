@@ -1,7 +1,7 @@
 -- `rest` meets its contract: what the check does not find alone.
 use Rattle.sheet_format.specs.Form.{break}
 use Rattle.sheet_rest.proofs.RestLaws.{lines}
-use Rattle.sheet_format.proofs.of_sheet_text.ReadLaws.{readings}
+use Rattle.sheet_format.specs.SheetTextReadLaws.{readings}
 use Rattle.sheet_rest.proofs.rest.Goals as goal
 
 pub returns-then-m-eq0 : goal.returns-then-m-eq0

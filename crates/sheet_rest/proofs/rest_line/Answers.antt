@@ -1,6 +1,6 @@
 -- `rest_line` meets its contract: what the check does not find alone.
 use Rattle.sheet_format.specs.Form.{rest_line}
-use Rattle.sheet_format.proofs.of_sheet_text.ReadLaws.{readings}
+use Rattle.sheet_format.specs.SheetTextReadLaws.{readings}
 use Rattle.sheet_rest.proofs.rest_line.Goals as goal
 
 pub returns-in_default : goal.returns-in_default

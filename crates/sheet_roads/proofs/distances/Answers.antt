@@ -1,7 +1,7 @@
 -- `distances` meets its contract: what the check does not find alone.
 use Rattle.sheet_squares.specs.sheet_format.Form.{distances}
-use Rattle.sheet_squares.proofs.of_sheet_reader.SectionLaws.{sections}
-use Rattle.sheet_squares.proofs.of_sheet_text.ReadLaws.{readings}
+use Rattle.sheet_squares.specs.SheetReaderSectionLaws.{sections}
+use Rattle.sheet_squares.specs.SheetTextReadLaws.{readings}
 use Rattle.sheet_roads.proofs.distances.Goals as goal
 
 pub returns-in_default : goal.returns-in_default

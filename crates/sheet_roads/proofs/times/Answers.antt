@@ -1,9 +1,9 @@
 -- `times` meets its contract: what the check does not find alone.
 use borrow.Author.Rules.{rules}
-use Rattle.sheet_squares.proofs.of_sheet_reader.SectionLaws.{sections}
+use Rattle.sheet_squares.specs.SheetReaderSectionLaws.{sections}
 use Rattle.sheet_roads.proofs.RoadLaws.{times_laws}
 use Rattle.sheet_squares.specs.sheet_format.Form.{times}
-use Rattle.sheet_squares.proofs.of_sheet_text.ReadLaws.{readings}
+use Rattle.sheet_squares.specs.SheetTextReadLaws.{readings}
 use Rattle.sheet_roads.proofs.times.Goals as goal
 
 pub returns-then-m-eq0 : goal.returns-then-m-eq0

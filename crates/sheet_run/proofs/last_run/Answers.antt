@@ -2,7 +2,7 @@
 use borrow.Author.Tests.{eq-eqb, ne_eqb}
 use Rattle.sheet_format.specs.Form.{last_run}
 use Rattle.sheet_run.proofs.RunLaws.{run_laws}
-use Rattle.sheet_format.proofs.of_sheet_text.ReadLaws.{readings}
+use Rattle.sheet_format.specs.SheetTextReadLaws.{readings}
 use Rattle.sheet_run.proofs.last_run.Goals as goal
 
 pub returns-then-i-s : goal.returns-then-i-s

@@ -1,6 +1,6 @@
 -- `run` meets its contract: what the check does not find alone.
 use Rattle.sheet_format.specs.Form.{run}
-use Rattle.sheet_format.proofs.of_sheet_text.ReadLaws.{readings}
+use Rattle.sheet_format.specs.SheetTextReadLaws.{readings}
 use Rattle.sheet_run.proofs.run.Goals as goal
 
 pub returns-in-Refused : goal.returns-in-Refused

@@ -1,6 +1,6 @@
 -- `run_line` meets its contract: what the check does not find alone.
 use Rattle.sheet_format.specs.Form.{run_line}
-use Rattle.sheet_format.proofs.of_sheet_text.ReadLaws.{readings}
+use Rattle.sheet_format.specs.SheetTextReadLaws.{readings}
 use Rattle.sheet_run.proofs.run_line.Goals as goal
 
 pub returns-in_default : goal.returns-in_default

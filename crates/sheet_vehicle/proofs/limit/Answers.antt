@@ -1,6 +1,6 @@
 -- `limit` meets its contract: what the check does not find alone.
 use Rattle.sheet_format.specs.Form.{limit}
-use Rattle.sheet_format.proofs.of_sheet_text.ReadLaws.{readings}
+use Rattle.sheet_format.specs.SheetTextReadLaws.{readings}
 use Rattle.sheet_vehicle.proofs.limit.Goals as goal
 
 pub returns-in-Got : goal.returns-in-Got

@@ -1,7 +1,7 @@
 -- `vehicle` meets its contract: what the check does not find alone.
 use Rattle.sheet_format.specs.Form.{vehicle}
 use Rattle.sheet_vehicle.proofs.VehicleLaws.{lines}
-use Rattle.sheet_format.proofs.of_sheet_text.ReadLaws.{readings}
+use Rattle.sheet_format.specs.SheetTextReadLaws.{readings}
 use Rattle.sheet_vehicle.proofs.vehicle.Goals as goal
 
 pub returns-in-Refused : goal.returns-in-Refused

@@ -1,7 +1,7 @@
 -- `vehicle_line` meets its contract: what the check does not find alone.
 use borrow.Author.Tests.{eq-eqb, ne_eqb}
 use Rattle.sheet_vehicle.proofs.VehicleLaws.{same_vehicle, limit_bad, on_limit}
-use Rattle.sheet_format.proofs.of_sheet_text.ReadLaws.{next_refused, check_false, number_bad, signed_bad, on_signed, on_number, on_check}
+use Rattle.sheet_format.specs.SheetTextReadLaws.{next_refused, check_false, number_bad, signed_bad, on_signed, on_number, on_check}
 use Rattle.sheet_format.specs.Form.{vehicle_line}
 use Rattle.sheet_vehicle.proofs.vehicle_line.Goals as goal
 
@@ -31,7 +31,7 @@ returns-in_default-limit c = search (on_signed, on_number, on_check, eq-eqb, nex
 
 pub returns-in_default-limit-2 : goal.returns-in_default-limit-2
 unfolding vehicle_line
-returns-in_default-limit-2 c =    on_signed _ _ _ _ _ _ c.signed_before.ensures c.in-Got.is
+returns-in_default-limit-2 c = on_signed _ _ _ _ _ _ c.signed_before.ensures c.in-Got.is
     (on_number _ _ _ _ _ _ c.number_before.ensures c.in-Got-number_before.is
     (on_check _ _ _ _ _ _ (eq-eqb _ _ c.if-depot-ne0.false)
     (on_number _ _ _ _ _ _ c.number_before-2.ensures c.in-Got-number_before-2.is
@@ -41,7 +41,7 @@ returns-in_default-limit-2 c =    on_signed _ _ _ _ _ _ c.signed_before.ensures 
 
 pub returns : goal.returns
 unfolding vehicle_line
-returns c =    on_signed _ _ _ _ _ _ c.signed_before.ensures c.in-Got.is
+returns c = on_signed _ _ _ _ _ _ c.signed_before.ensures c.in-Got.is
     (on_number _ _ _ _ _ _ c.number_before.ensures c.in-Got-number_before.is
     (on_check _ _ _ _ _ _ (eq-eqb _ _ c.if-depot-ne0.false)
     (on_number _ _ _ _ _ _ c.number_before-2.ensures c.in-Got-number_before-2.is

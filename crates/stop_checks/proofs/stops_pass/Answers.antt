@@ -1,6 +1,6 @@
 -- `stops_pass` meets its contract: what the check does not find alone.
 use Prim.Native.Nat.{◌-◌}
-use Rattle.length_checks.proofs.of_break_clock.StopLaws.{part_laws}
+use Rattle.length_checks.specs.BreakClockStopLaws.{part_laws}
 use Rattle.length_checks.specs.laws.Passed.{every_laws}
 use Rattle.length_checks.specs.entry.Table.{stop_passes, stops_pass}
 use Rattle.stop_checks.proofs.MarkLaws.{marks_start, marks_more}

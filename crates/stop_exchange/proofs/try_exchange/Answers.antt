@@ -7,10 +7,10 @@ pub both_feasible-requires : goal.both_feasible-requires
 both_feasible-requires c = record { admitted = c.requires.admitted; a_in_bounds = (search (stop_route, c.requires.admitted, c.requires.fact), search (stop_route, c.requires.admitted, c.requires.fact), search (exchanged_lent, c.requires.admitted, c.requires.fact, c.exchange_stops), search (exchanged_planned, c.requires.admitted, c.requires.fact, c.exchange_stops), c.requires.fact.5) }
 
 pub returns-then-both_feasible : goal.returns-then-both_feasible
-returns-then-both_feasible c =    search (exchange_stays, c.requires.admitted, c.requires.fact, c.exchange_stops)
+returns-then-both_feasible c = search (exchange_stays, c.requires.admitted, c.requires.fact, c.exchange_stops)
 
 pub exchange_stops-requires-2 : goal.exchange_stops-requires-2
 exchange_stops-requires-2 c = record { lent = search (exchanged_lent, c.requires.admitted, c.requires.fact, c.exchange_stops); fact = (c.requires.fact.0, search (exchanged_first, c.requires.admitted, c.requires.fact, c.exchange_stops), search (exchanged_second, c.requires.admitted, c.requires.fact, c.exchange_stops)) }
 
 pub returns : goal.returns
-returns c =    search (exchange_undone, c.requires.admitted, c.requires.fact, c.exchange_stops, c.both_feasible)
+returns c = search (exchange_undone, c.requires.admitted, c.requires.fact, c.exchange_stops, c.both_feasible)

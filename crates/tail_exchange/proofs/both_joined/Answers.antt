@@ -1,7 +1,7 @@
 -- `both_joined` meets its contract: what the check does not find alone.
 use native.Mathlib.Omega.{arith}
 use mathlib.Core.Path.{sym}
-use Rattle.joined_tails.proofs.of_route_load.FeasibleLaws.{demands_own}
+use Rattle.joined_tails.specs.RouteLoadFeasibleLaws.{demands_own}
 use Rattle.tail_exchange.proofs.TailLaws.{joined_heavy, joined_falls, joined_decides}
 use Rattle.tail_exchange.proofs.both_joined.Goals as goal
 
@@ -15,10 +15,10 @@ pub joined_stands-requires-then-joined_stands : goal.joined_stands-requires-then
 joined_stands-requires-then-joined_stands c = record { admitted = c.requires.admitted; fact = (c.requires.fact.0, c.requires.fact.1, c.requires.fact.2, omega (arith, c.requires.fact.3, c.joined_within.auto.work, c.joined_stands.auto.work), c.requires.fact.4, c.requires.fact.5, c.requires.fact.6) }
 
 pub returns-then-joined_stands : goal.returns-then-joined_stands
-returns-then-joined_stands c =    joined_decides _ _ _ _ _ _ _ _ _ _ _ _ _ _ _ _ c.joined_within.ensures _ c.joined_stands.ensures c.if-joined_stands.true _ c.joined_stands-then-joined_stands.ensures
+returns-then-joined_stands c = joined_decides _ _ _ _ _ _ _ _ _ _ _ _ _ _ _ _ c.joined_within.ensures _ c.joined_stands.ensures c.if-joined_stands.true _ c.joined_stands-then-joined_stands.ensures
 
 pub returns-then-joined_within : goal.returns-then-joined_within
-returns-then-joined_within c =    joined_falls _ _ _ _ _ _ _ _ _ _ _ _ _ _ _ _ c.joined_within.ensures _ c.joined_stands.ensures c.if-joined_stands.false
+returns-then-joined_within c = joined_falls _ _ _ _ _ _ _ _ _ _ _ _ _ _ _ _ c.joined_within.ensures _ c.joined_stands.ensures c.if-joined_stands.false
 
 pub returns : goal.returns
-returns c =    joined_heavy _ _ _ _ _ _ _ _ _ _ _ _ _ _ _ _ c.joined_within.ensures c.if-joined_within.false
+returns c = joined_heavy _ _ _ _ _ _ _ _ _ _ _ _ _ _ _ _ c.joined_within.ensures c.if-joined_within.false

@@ -1,6 +1,6 @@
 -- `reach_front` meets its contract: what the check does not find alone.
-use Rattle.route_checks.proofs.of_evaluation.CheckLaws.{out_there, front_is}
-use Rattle.route_checks.proofs.of_break_clock.StopLaws.{part_laws}
+use Rattle.route_checks.specs.EvaluationCheckLaws.{out_there, front_is}
+use Rattle.route_checks.specs.BreakClockStopLaws.{part_laws}
 use Rattle.trial_route.proofs.reach_front.Goals as goal
 
 pub slice_bounds-reach_all-end : goal.slice_bounds-reach_all-end

@@ -1,6 +1,6 @@
 -- `reach_tail` meets its contract: what the check does not find alone.
-use Rattle.route_checks.proofs.of_evaluation.CheckLaws.{tail_is}
-use Rattle.route_checks.proofs.of_break_clock.StopLaws.{part_laws}
+use Rattle.route_checks.specs.EvaluationCheckLaws.{tail_is}
+use Rattle.route_checks.specs.BreakClockStopLaws.{part_laws}
 use Rattle.trial_route.proofs.reach_tail.Goals as goal
 
 pub reach_all-requires : goal.reach_all-requires

@@ -1,6 +1,6 @@
 -- `ride_front` meets its contract: what the check does not find alone.
-use Rattle.route_checks.proofs.of_break_clock.ScheduleLaws.{out_there, front_few, front_is}
-use Rattle.route_checks.proofs.of_break_clock.StopLaws.{part_laws}
+use Rattle.route_checks.specs.BreakClockScheduleLaws.{out_there, front_few, front_is}
+use Rattle.route_checks.specs.BreakClockStopLaws.{part_laws}
 use Rattle.trial_route.proofs.ride_front.Goals as goal
 
 pub slice_bounds-ride_all-end : goal.slice_bounds-ride_all-end

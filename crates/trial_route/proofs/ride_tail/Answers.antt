@@ -1,6 +1,6 @@
 -- `ride_tail` meets its contract: what the check does not find alone.
-use Rattle.route_checks.proofs.of_break_clock.ScheduleLaws.{tail_few, tail_is}
-use Rattle.route_checks.proofs.of_break_clock.StopLaws.{part_laws}
+use Rattle.route_checks.specs.BreakClockScheduleLaws.{tail_few, tail_is}
+use Rattle.route_checks.specs.BreakClockStopLaws.{part_laws}
 use Rattle.trial_route.proofs.ride_tail.Goals as goal
 
 pub ride_all-requires : goal.ride_all-requires

@@ -1,6 +1,6 @@
 -- `trial_feasible` meets its contract: what the check does not find alone.
-use Rattle.route_checks.proofs.of_evaluation.CheckLaws.{trial_there, trial_feasible_laws}
-use Rattle.route_checks.proofs.of_break_clock.ScheduleLaws.{trial_there as ride_there}
+use Rattle.route_checks.specs.EvaluationCheckLaws.{trial_there, trial_feasible_laws}
+use Rattle.route_checks.specs.BreakClockScheduleLaws.{trial_there as ride_there}
 use Rattle.trial_route.proofs.trial_feasible.Goals as goal
 
 pub returns-in_default-walked : goal.returns-in_default-walked

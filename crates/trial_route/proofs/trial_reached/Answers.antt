@@ -1,6 +1,6 @@
 -- `trial_reached` meets its contract: what the check does not find alone.
 use borrow.Author.Rules.{rules}
-use Rattle.route_checks.proofs.of_evaluation.CheckLaws.{front_there, reach_there, trial_laws}
+use Rattle.route_checks.specs.EvaluationCheckLaws.{front_there, reach_there, trial_laws}
 use Rattle.trial_route.proofs.trial_reached.Goals as goal
 
 pub returns-in_default : goal.returns-in_default

@@ -1,6 +1,6 @@
 -- `trial_ridden` meets its contract: what the check does not find alone.
-use Rattle.route_checks.proofs.of_break_clock.StopLaws.{one_stop}
-use Rattle.route_checks.proofs.of_break_clock.ScheduleLaws.{front_there, front_room, one_there, stop_index, trial_laws}
+use Rattle.route_checks.specs.BreakClockStopLaws.{one_stop}
+use Rattle.route_checks.specs.BreakClockScheduleLaws.{front_there, front_room, one_there, stop_index, trial_laws}
 use Rattle.trial_route.proofs.trial_ridden.Goals as goal
 
 pub returns-in_default : goal.returns-in_default

@@ -1,6 +1,6 @@
 -- `calls::cobrwydd_minimise` meets its contract.
 use Rattle.c_vehicle.proofs.VehicleLaws.{vehicle_kept}
-use Rattle.c_answers.proofs.of_c_values.AnswerLaws.{numbers_fit, misfit_replied, call_replied, reply_free}
+use Rattle.c_answers.specs.CValuesAnswerLaws.{numbers_fit, misfit_replied, call_replied, reply_free}
 use borrow.Author.Rules.{rules}
 use mathlib.Core.Path.{refl}
 use Rattle.cobrwydd.proofs.calls.cobrwydd_minimise.Statement.{statement}

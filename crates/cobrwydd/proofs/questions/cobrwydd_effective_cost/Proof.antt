@@ -1,6 +1,6 @@
 -- `questions::cobrwydd_effective_cost` meets its contract.
 use Rattle.c_vehicle.proofs.VehicleLaws.{vehicle_kept}
-use Rattle.c_answers.proofs.of_c_values.AnswerLaws.{floats_fit, misfit_said, answer_said}
+use Rattle.c_answers.specs.CValuesAnswerLaws.{floats_fit, misfit_said, answer_said}
 use borrow.Author.Rules.{rules}
 use Rattle.cobrwydd.proofs.questions.cobrwydd_effective_cost.Statement.{statement}
 use Rattle.cobrwydd.proofs.questions.cobrwydd_effective_cost.Tie as tie

@@ -1,7 +1,7 @@
 -- `questions::cobrwydd_time_window_new` meets its contract.
 use mathlib.Core.Path.{ap}
 use Rattle.worth_questions.specs.planner.Calls.{answered}
-use Rattle.c_answers.proofs.of_c_values.AnswerLaws.{floats_fit, numbers_fit, misfit_said, answer_said}
+use Rattle.c_answers.specs.CValuesAnswerLaws.{floats_fit, numbers_fit, misfit_said, answer_said}
 use borrow.Author.Rules.{rules}
 use Rattle.cobrwydd.proofs.questions.cobrwydd_time_window_new.Statement.{statement}
 use Rattle.cobrwydd.proofs.questions.cobrwydd_time_window_new.Tie as tie

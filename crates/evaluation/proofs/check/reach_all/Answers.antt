@@ -1,7 +1,7 @@
 -- `check::reach_all` meets its contract: what the check does not find alone.
 use Prim.Native.Nat.{◌-◌}
 use Rattle.evaluation.proofs.CheckLaws.{reaching_laws}
-use Rattle.break_schedule.proofs.of_break_clock.StopLaws.{stop_laws}
+use Rattle.break_schedule.specs.BreakClockStopLaws.{stop_laws}
 use Rattle.evaluation.proofs.check.reach_all.Goals as goal
 
 pub loop-i-init : goal.loop-i-init

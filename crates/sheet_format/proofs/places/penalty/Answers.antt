@@ -1,6 +1,6 @@
 -- `places::penalty` meets its contract: what the check does not find alone.
 use Rattle.sheet_format.specs.Form.{penalty}
-use Rattle.sheet_fields.proofs.of_sheet_text.ReadLaws.{readings}
+use Rattle.sheet_fields.specs.SheetTextReadLaws.{readings}
 use Rattle.sheet_format.proofs.places.penalty.Goals as goal
 
 pub returns-in-Got : goal.returns-in-Got

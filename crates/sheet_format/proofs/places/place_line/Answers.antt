@@ -1,7 +1,7 @@
 -- `places::place_line` meets its contract: what the check does not find alone.
 use borrow.Author.Rules.{rules}
 use Rattle.sheet_format.proofs.LineLaws.{same_place, window_bad, penalty_bad, on_window, on_penalty}
-use Rattle.sheet_fields.proofs.of_sheet_text.ReadLaws.{next_refused, number_bad, signed_bad, on_signed, on_number}
+use Rattle.sheet_fields.specs.SheetTextReadLaws.{next_refused, number_bad, signed_bad, on_signed, on_number}
 use Rattle.sheet_format.specs.Form.{place}
 use Rattle.sheet_format.proofs.places.place_line.Goals as goal
 
@@ -23,7 +23,7 @@ returns-in_default-penalty c = search (on_signed, on_number, on_window, next_ref
 
 pub returns : goal.returns
 unfolding place
-returns c =    on_signed _ _ _ _ _ _ c.signed_before.ensures c.in-Got.is
+returns c = on_signed _ _ _ _ _ _ c.signed_before.ensures c.in-Got.is
     (on_number _ _ _ _ _ _ c.number_before.ensures c.in-Got-number_before.is
     (on_window _ _ _ _ _ _ c.window_before.ensures c.in-Got-window_before.is
     (on_penalty _ _ _ _ _ _ c.penalty.ensures c.in-Got-penalty.is

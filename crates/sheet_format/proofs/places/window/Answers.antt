@@ -2,7 +2,7 @@
 use native.Mathlib.Omega.{arith}
 use Rattle.sheet_format.specs.Form.{window}
 use Rattle.sheet_format.proofs.LineLaws.{lines}
-use Rattle.sheet_fields.proofs.of_sheet_text.ReadLaws.{readings}
+use Rattle.sheet_fields.specs.SheetTextReadLaws.{readings}
 use Rattle.sheet_format.proofs.places.window.Goals as goal
 
 pub overflow_add-at : goal.overflow_add-at

@@ -1,6 +1,6 @@
 -- `places::window_before` meets its contract: what the check does not find alone.
 use Rattle.sheet_format.proofs.LineLaws.{lines}
-use Rattle.sheet_fields.proofs.of_sheet_text.ReadLaws.{readings}
+use Rattle.sheet_fields.specs.SheetTextReadLaws.{readings}
 use Rattle.sheet_format.proofs.places.window_before.Goals as goal
 
 pub returns-in_default : goal.returns-in_default

@@ -3,7 +3,7 @@ use native.Mathlib.Omega.{arith}
 use Rattle.sheet_reader.proofs.SectionLaws.{sections, count_within}
 use Rattle.sheet_routes.proofs.RouteLaws.{plan_within}
 use Rattle.sheet_reader.specs.sheet_format.Form.{routes}
-use Rattle.sheet_reader.proofs.of_sheet_text.ReadLaws.{readings}
+use Rattle.sheet_reader.specs.SheetTextReadLaws.{readings}
 use Rattle.sheet_routes.proofs.routes.routes.Goals as goal
 
 pub route_rows-requires : goal.route_rows-requires

@@ -5,7 +5,7 @@ use Rattle.sheet_draws.specs.sheet_reader.Cells.{AtMost}
 use Rattle.sheet_draws.specs.Draws.{filled_count}
 use Rattle.sheet_routes.specs.Routes.{PlanWithin, filled_plan}
 use Rattle.sheet_run.specs.Run.{told_run}
-use Rattle.sheet_draws.proofs.of_sheet_text.ReadLaws.{told}
+use Rattle.sheet_draws.specs.SheetTextReadLaws.{told}
 use Rattle.sheet_whole.proofs.request.request.Goals as goal
 
 pub returns-in-Refused : goal.returns-in-Refused

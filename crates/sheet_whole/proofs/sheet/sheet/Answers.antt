@@ -4,14 +4,14 @@ use Rattle.sheet_whole.proofs.SheetLaws.{no_problem, no_request, sheet_got}
 use Rattle.sheet_whole.specs.Request.{told_request, RequestWithin}
 use Rattle.sheet_problem.specs.Told.{told_problem, ProblemWithin}
 use Rattle.sheet_draws.specs.sheet_format.Faults.{too_long}
-use Rattle.sheet_draws.proofs.of_sheet_text.ReadLaws.{told}
+use Rattle.sheet_draws.specs.SheetTextReadLaws.{told}
 use Rattle.sheet_whole.proofs.sheet.sheet.Goals as goal
 
 pub returns-then-s-gt60000 : goal.returns-then-s-gt60000
 returns-then-s-gt60000 c = record { result_after = sym (too_long _ _ c.if-s-gt60000.true); sheet_within = tt }
 
 pub request-q-requires : goal.request-q-requires
-request-q-requires c =    c.requires.in_bounds
+request-q-requires c = c.requires.in_bounds
 
 pub returns-in-Refused : goal.returns-in-Refused
 returns-in-Refused c = record { result_after = no_problem _ c.if-s-gt60000.false _ (told (told_problem _ _ _) c.in-Refused.is c.problem-p.ensures.result_after); sheet_within = tt }

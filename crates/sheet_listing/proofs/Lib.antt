@@ -1,3 +1,0 @@
--- What the proofs of this crate cite.
--- crates below, passed on to those above
-pub use Rattle.sheet_parts.proofs.of_sheet_answers as of_sheet_answers
