@@ -16,6 +16,7 @@ import sys
 WORD = re.compile(r"[^\s(){}\[\].;,@\"«»`]+")
 DECLARED = re.compile(r"^\s*(?:(?:abbrev|unfoldable|pub|record|data|ruleset)\s+)*([^\s:(){}.;,]+)(?:\s+\{[^{}]*\})*\s*:(?=\s|$)")
 OPENED = re.compile(r"^\s*(?:pub\s+)?(?:record|data|ruleset)\s+(?:pub\s+)?([^\s:(){}.;,]+)")
+ALONE = re.compile(r"^\s*(?:pub\s+)?([a-z][^\s:(){}.;,=]*)$")
 RULES = re.compile(r"^\s*ruleset\s+(?:pub\s+)?([^\s:(){}.;,]+)")
 SPAN = re.compile(r"`[^`\n]+`")
 USE = re.compile(r"^\s*(?:pub )?(?:ghost )?use ([\w.]+)\.\{([^}]*)\}", re.M)
@@ -54,7 +55,11 @@ def declared():
     for path in files(".antt"):
         if os.path.basename(path) == "Proof.antt":
             continue
-        for line in read(path).splitlines():
+        lines = read(path).splitlines()
+        for line, after in zip(lines, lines[1:] + [""]):
+            alone = ALONE.match(line)
+            if alone and after.lstrip().startswith(": ") and spelled(alone[1]) != alone[1]:
+                names.add(alone[1])
             for form in (DECLARED, OPENED, RULES):
                 found = form.match(line)
                 if found and not found[1].startswith("--") and spelled(found[1]) != found[1]:

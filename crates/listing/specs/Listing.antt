@@ -15,11 +15,11 @@ use Rattle.local_search.specs.route_load.Feasible.{load}
 use Rattle.sheet_text.specs.Text.{bytes}
 use Rattle.listing.specs.Decimal.{text, digits, decimal, signed}
 
--- a distance as it prints, Rust's `as u64`: the distances of a sheet are whole numbers, and so are their sums (`distance-prints`, sheet_laws)
+-- a distance as it prints, Rust's `as u64`: the distances of a sheet are whole numbers, and so are their sums (`distance_prints`, sheet_laws)
 abbrev pub whole : Float → ℕ
 whole x = to_unsigned 64 x
 
--- a route whose distance is in the range of a u64, as the cast asks (`distance-prints`, sheet_laws)
+-- a route whose distance is in the range of a u64, as the cast asks (`distance_prints`, sheet_laws)
 pub record Prints (p : Problem) (route : List ℕ) : Type 0 where
   pub castable : T (in_unsigned binary64 64 (route_distance p.roads (depot p) route))
 
@@ -94,18 +94,18 @@ sample_with demand = problem 3 demand [] [] [] [] [] (nat 0 ∷ nat 10 ∷ nat 1
 sample : ℤ → Problem
 sample first = sample_with (pos 0 ∷ first ∷ pos 5 ∷ [])
 
-sample-listing
+sample_listing
     : listing (sample (pos 4)) ((1 ∷ 2 ∷ []) ∷ []) (record { steps = 2; draws = 0 }) 2
     ≡ bytes "routes 1\n1 9 25 1 2\nsteps 2 draws 0 given 2 left 1\n"
 unfolding opened sample sample_with van
-sample-listing = refl
+sample_listing = refl
 
 -- a negative load, and a load of 0
-other-loads
+other_loads
     : listing (sample (negsuc 6)) ((1 ∷ []) ∷ (2 ∷ []) ∷ []) (record { steps = 10; draws = 500 }) 3
     ≡ bytes "routes 2\n1 -7 20 1\n2 5 20 2\nsteps 10 draws 500 given 3 left 2\n"
 unfolding opened sample sample_with van
-other-loads = refl
+other_loads = refl
 
 -- the depot's own demand is in no load
 depot_not_loaded : line_of (sample_with (pos 7 ∷ pos 4 ∷ pos 5 ∷ [])) 1 (1 ∷ 2 ∷ []) ≡ bytes "1 9 25 1 2\n"

@@ -129,13 +129,13 @@ module _ (n : ℕ) (demand : List ℤ) (distances : List Float) (v : Vehicle) (l
           pub lining_room : Room out p (line_of prob number (take (end - from) (drop from stops)))
           lining_room = rw (part, f) (room_front out p _ _ _ (writing_room out₀ at _ out p _ g.lines g.room) (lines_more prob plan k there))
 
-          pub lining-more
+          pub lining_more
               : (out₁ : List ℕ) (p₁ from₁ k₁ : ℕ)
               → Written out p (line_of prob number (take (end - from) (drop from stops))) out₁ p₁
               → from₁ ≡ from + get_or lengths k 0
               → k₁ ≡ k + 1
               → Lining n demand distances v lengths stops out₀ at out₁ p₁ from₁ k₁
-          lining-more out₁ p₁ from₁ k₁ w a b =
+          lining_more out₁ p₁ from₁ k₁ w a b =
               rw (a, b)
               (record {
                 few = g.few;

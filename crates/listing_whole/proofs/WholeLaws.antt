@@ -32,31 +32,31 @@ module _ (lengths stops : List ℕ) (routes : ℕ) where
     taken_length : length (take routes (split lengths stops)) ≡ routes
     taken_length = length-take-le routes (split lengths stops) (rw (length_split lengths stops) h)
 
-    listing-is
+    listing_is
         : listing p (take routes (split lengths stops)) counts given
         ≡ text (first_line routes ∷ route_lines p 1 (split (take routes lengths) stops) ∷ last_line counts.steps counts.draws given routes ∷ [])
     unfolding listing
-    listing-is = rw (taken_length, split_take lengths stops routes)
+    listing_is = rw (taken_length, split_take lengths stops routes)
 
     module _ (l : List ℕ) where
       module _ (r : Room l 0 (listing p (take routes (split lengths stops)) counts given)) where
         pub first_room : Room l 0 (first_line routes)
-        first_room = room_first l 0 _ _ (rw listing-is at r)
+        first_room = room_first l 0 _ _ (rw listing_is at r)
 
         module _ (m : List ℕ) (a : ℕ) (w : Written l 0 (first_line routes) m a) where
           pub routes_room : Room m a (route_lines p 1 (split (take routes lengths) stops))
-          routes_room = room_first m a _ _ (room_more l 0 _ m a _ w (rw listing-is at r))
+          routes_room = room_first m a _ _ (room_more l 0 _ m a _ w (rw listing_is at r))
 
           pub last_room
               : (o : List ℕ) (b : ℕ)
               → Written m a (route_lines p 1 (split (take routes lengths) stops)) o b
               → Room o b (last_line counts.steps counts.draws given routes)
-          last_room o b x = room_first o b _ _ (room_more m a _ o b _ x (room_more l 0 _ m a _ w (rw listing-is at r)))
+          last_room o b x = room_first o b _ _ (room_more m a _ o b _ x (room_more l 0 _ m a _ w (rw listing_is at r)))
 
-      pub listing-written
+      pub listing_written
           : (m : List ℕ) (a : ℕ) (o : List ℕ) (b : ℕ) (q : List ℕ) (e : ℕ)
           → Written l 0 (first_line routes) m a
           → Written m a (route_lines p 1 (split (take routes lengths) stops)) o b
           → Written o b (last_line counts.steps counts.draws given routes) q e
           → Written l 0 (listing p (take routes (split lengths stops)) counts given) q e
-      listing-written m a o b q e x y z = rw listing-is (text_more _ _ _ _ _ _ _ _ x (text_more _ _ _ _ _ _ _ _ y (text_last _ _ _ _ _ z)))
+      listing_written m a o b q e x y z = rw listing_is (text_more _ _ _ _ _ _ _ _ x (text_more _ _ _ _ _ _ _ _ y (text_last _ _ _ _ _ z)))

@@ -37,7 +37,7 @@ use Rattle.sheet_laws.specs.listing.Written.{Room, Written}
 use Rattle.sheet_laws.specs.ListingReadLaws.{read, listing_reads}
 use Rattle.sheet_laws.specs.ListingBoundLaws.{listing_fits, refusal_fits}
 use Rattle.sheet_laws.specs.Short.{Short}
-use Rattle.sheet_laws.proofs.Distances.{distance-prints}
+use Rattle.sheet_laws.proofs.Distances.{distance_prints}
 use Rattle.sheet_answers.proofs.Fits.{flat_take, every}
 use Rattle.sheet_answers.specs.Printed.{work, eliminated, planned, sheet_of, printed}
 
@@ -104,7 +104,7 @@ stops_print : (n : ℕ) (demand : List ℤ) (distances : List Float) (v : Vehicl
 stops_print n demand distances v h home route s =
     let most = mul-le-mul_right 999_999_999 s.few in
     let few : suc (length route) * 999_999_999 ≤ 2 ^ 53 = omega (arith, most) in
-    let d = distance-prints n h.cells [] h.size 999_999_999 h.small v.depot_id home route (all_of route 0 s.each) few in
+    let d = distance_prints n h.cells [] h.size 999_999_999 h.small v.depot_id home route (all_of route 0 s.each) few in
     record { castable = rw h.are d.0 }
 
 -- ---- texts that are printed
@@ -158,12 +158,12 @@ module _
           accepted = (eliminate_accepted p (slices_of lengths stops) work (own_none p (slices_of lengths stops) (entry_passed_after p s (eliminate work) d (slices_of lengths stops) answers))).0
 
           -- what the writer of a listing asks for
-          pub eliminate-asks
+          pub eliminate_asks
               : Room out 0 (listing (read p) routes counts given)
               × (((p.roads.size ≤ 256) × (length p.roads.distances ≡ p.roads.size * p.roads.size))
               × (((depot p < p.roads.size) × Demands p.roads.size p.demand × Lent lengths stops × (d.routes ≤ length lengths))
               × (All (Stops p.roads.size) routes × All (Prints (read p)) routes)))
-          eliminate-asks =
+          eliminate_asks =
               let b = accepted in
               let inside = all_take d.routes (planned_stops p.roads.size (split lengths stops) b.planned) in
               let few : length routes ≤ 64 = omega (arith, length-take d.routes (split lengths stops), length_split lengths stops, few-lengths) in

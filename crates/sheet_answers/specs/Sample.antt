@@ -23,15 +23,15 @@ unfolding opened
 nothing_prints = refl
 
 -- an empty tape: row 7, and nothing else is wrong with the sheet
-no-draws-print
+no_draws_print
     : printed (bytes "vehicle 1\n10 0 0 1 - -\nplaces 1\n0 0 - - -\ndistances 1\n0\ntimes 0\nbreak 0\ndraws 0\nroutes 0\nrun 1\n5 5\n")
     ≡ bytes "refused 7\n"
 unfolding opened
-no-draws-print = refl
+no_draws_print = refl
 
 -- no routes
-no-routes-print
+no_routes_print
     : printed (bytes "vehicle 1\n10 0 0 1 - -\nplaces 1\n0 0 - - -\ndistances 1\n0\ntimes 0\nbreak 0\ndraws 1\n7\nroutes 0\nrun 1\n5 5\n")
     ≡ bytes "routes 0\nsteps 0 draws 0 given 0 left 0\n"
 unfolding opened
-no-routes-print = refl
+no_routes_print = refl

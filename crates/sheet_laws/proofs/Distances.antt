@@ -50,24 +50,24 @@ module _ (n : ℕ) (cells : List ℕ) (times : List Float) (size : length cells 
     way far prev [] = far + leg prev depot
     way far prev (c ∷ cs) = way (far + leg prev c) c cs
 
-    legs-whole
+    legs_whole
         : (cs : List ℕ) (far prev : ℕ)
         → prev < n
         → All (λ c. c < n) cs
         → far + suc (length cs) * most ≤ 2 ^ 53
         → (legs (matrix n (map nat cells) times) depot (nat far) prev cs ≡ nat (way far prev cs)) × (way far prev cs ≤ far + suc (length cs) * most)
     unfolding legs way
-    legs-whole [] far prev p a b =
+    legs_whole [] far prev p a b =
         let l = leg_small prev depot p home in
         let m : far + most ≤ 2 ^ 53 = omega (arith, b, suc-mul 0 most, zero-mul most) in
         (ap (λ x. nat far ⊕ x) (leg_is prev depot p home) ∙ nat_add far (leg prev depot) (omega (arith, m)) (omega (arith, l, m)), omega (arith, l, suc-mul 0 most, zero-mul most))
-    legs-whole (c ∷ cs) far prev p (all_cons q a) b =
+    legs_whole (c ∷ cs) far prev p (all_cons q a) b =
         let l = leg_small prev c p q in
         let s = suc-mul (suc (length cs)) most in
         let m : far + leg prev c ≤ 2 ^ 53 = omega (arith, b, s, l) in
         let e : nat far ⊕ get (matrix n (map nat cells) times) prev c ≡ nat (far + leg prev c) =
         ap (λ x. nat far ⊕ x) (leg_is prev c p q) ∙ nat_add far (leg prev c) (omega (arith, m)) (omega (arith, m)) in
-        let r = legs-whole cs (far + leg prev c) c q a (omega (arith, b, s, l)) in
+        let r = legs_whole cs (far + leg prev c) c q a (omega (arith, b, s, l)) in
         (ap (λ x. legs (matrix n (map nat cells) times) depot x c cs) e ∙ r.0, omega (arith, r.1, s, l))
 
     -- the way of a whole route
@@ -76,26 +76,26 @@ module _ (n : ℕ) (cells : List ℕ) (times : List Float) (size : length cells 
     distance_of (c ∷ cs) = way (leg depot c) c cs
 
     -- a route's distance is that of its way, and prints as it
-    pub distance-whole
+    pub distance_whole
         : (route : List ℕ)
         → All (λ c. c < n) route
         → suc (length route) * most ≤ 2 ^ 53
         → (route_distance (matrix n (map nat cells) times) depot route ≡ nat (distance_of route)) × (distance_of route ≤ 2 ^ 53)
     unfolding route_distance distance_of
-    distance-whole [] a b = (sym nat_zero, omega arith)
-    distance-whole (c ∷ cs) (all_cons q a) b =
+    distance_whole [] a b = (sym nat_zero, omega arith)
+    distance_whole (c ∷ cs) (all_cons q a) b =
         let l = leg_small depot c home q in
         let s = suc-mul (suc (length cs)) most in
-        let r = legs-whole cs (leg depot c) c q a (omega (arith, b, s, l)) in
+        let r = legs_whole cs (leg depot c) c q a (omega (arith, b, s, l)) in
         (ap (λ x. legs (matrix n (map nat cells) times) depot x c cs) (leg_is depot c home q) ∙ r.0, omega (arith, r.1, b, s, l))
 
-    pub distance-prints
+    pub distance_prints
         : (route : List ℕ)
         → All (λ c. c < n) route
         → suc (length route) * most ≤ 2 ^ 53
         → T (in_unsigned binary64 64 (route_distance (matrix n (map nat cells) times) depot route))
         × (whole (route_distance (matrix n (map nat cells) times) depot route) ≡ distance_of route)
-    distance-prints route a b =
-        let d = distance-whole route a b in
+    distance_prints route a b =
+        let d = distance_whole route a b in
         let w = nat_back (distance_of route) d.1 in
         (subst (λ x. T (in_unsigned binary64 64 x)) (sym d.0) w.0, ap whole d.0 ∙ w.1)

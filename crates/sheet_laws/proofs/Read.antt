@@ -52,15 +52,15 @@ gives_check : {B : Type 0} (Q : B → Type 0) (b : Bool) (n : ℕ) (s : List ℕ
 gives_check Q true n s at f g = g refl at
 gives_check Q false n s at f g = tt
 
-gives-repeat
+gives_repeat
     : {A : Type 0} (P : A → Type 0) (n : ℕ) (p : ℕ → Parser A) (s : List ℕ) (at : ℕ)
     → ((left i : ℕ) → Gives P (p left s i))
     → Gives (λ l. All P l × (length l ≡ n)) (repeat n p s at)
 unfolding repeat
-gives-repeat P zero p s at h = (all_nil, refl)
-gives-repeat P (suc n) p s at h =
+gives_repeat P zero p s at h = (all_nil, refl)
+gives_repeat P (suc n) p s at h =
     gives_next P (λ l. All P l × (length l ≡ suc n)) (p n s at) _ (h n at)
-    (λ a i q. gives_next (λ l. All P l × (length l ≡ n)) (λ l. All P l × (length l ≡ suc n)) (repeat n p s i) _ (gives-repeat P n p s i h)
+    (λ a i q. gives_next (λ l. All P l × (length l ≡ n)) (λ l. All P l × (length l ≡ suc n)) (repeat n p s i) _ (gives_repeat P n p s i h)
     (λ l j m. (all_cons q m.0, ap suc m.1)))
 
 -- ---- numbers
@@ -114,7 +114,7 @@ Row k l = All Nine l × (length l ≡ k)
 
 gives_line : (k : ℕ) (s : List ℕ) (at : ℕ) → Gives (Row k) (line k s at)
 gives_line k s at =
-    gives-repeat Nine k (λ left. before (ending left) number) s at (λ left i. gives_before Nine (ending left) number s i (nine_digits s i))
+    gives_repeat Nine k (λ left. before (ending left) number) s at (λ left i. gives_before Nine (ending left) number s i (nine_digits s i))
 
 -- rows one behind the other
 all_rows : (n k : ℕ) (rows : List (List ℕ)) → All (Row k) rows → length rows ≡ n → All Nine (flat rows) × (length (flat rows) ≡ n * k)
@@ -129,7 +129,7 @@ gives_distances : (n : ℕ) (s : List ℕ) (at : ℕ) → Gives (λ rows. All (R
 unfolding distances
 gives_distances n s at =
     gives_after _ (heading (bytes "distances") n n 11 s at) _
-    (λ m i. gives-repeat (Row n) n (λ left. line n) s i (λ left j. gives_line n s j))
+    (λ m i. gives_repeat (Row n) n (λ left. line n) s i (λ left j. gives_line n s j))
 
 abbrev ShortRoads : DistanceMatrix → Type 0
 ShortRoads m = Short m.size m.distances

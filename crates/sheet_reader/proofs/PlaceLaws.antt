@@ -28,7 +28,7 @@ module _ (d : List ℤ) (v r u p : List Float) (f : List ℕ) (i : ℕ) (room : 
   abbrev before : Columns
   before = first_cells i (columns_of d v r u p f)
 
-  cells-filled
+  cells_filled
       : (x : Place)
       → first_cells
       (i + 1)
@@ -41,7 +41,7 @@ module _ (d : List ℤ) (v r u p : List Float) (f : List ℕ) (i : ℕ) (room : 
       (set f i (flags_cell x.customer.time_window x.customer.lateness_penalty)))
       ≡ add_place before x
   unfolding first_cells join columns
-  cells-filled x =
+  cells_filled x =
       rw (
         added d i x.demand room.demands,
         added v i x.customer.service_duration room.services,
@@ -56,7 +56,7 @@ module _ (d : List ℤ) (v r u p : List Float) (f : List ℕ) (i : ℕ) (room : 
     place_fault e = ap (map_reading (add_place before)) (told told_place e t)
 
     -- the line of a place, in the cells
-    pub place-filled
+    pub place_filled
         : (x : Place) (e : ℕ) (y : ℤ) (yr yu yp : Float) (yf : ℕ)
         → k ≡ PlaceGot x e
         → y ≡ x.demand
@@ -66,8 +66,8 @@ module _ (d : List ℤ) (v r u p : List Float) (f : List ℕ) (i : ℕ) (room : 
         → yf ≡ flags_cell x.customer.time_window x.customer.lateness_penalty
         → got (first_cells (i + 1) (columns_of (set d i y) (set v i x.customer.service_duration) (set r i yr) (set u i yu) (set p i yp) (set f i yf))) e
         ≡ map_reading (add_place before) (place s at)
-    place-filled x e y yr yu yp yf n hy hr hu hp hf =
-        ap (λ (c : Columns). got c e) (rw (hy, hr, hu, hp, hf) (cells-filled x)) ∙ ap (map_reading (add_place before)) (told told_place n t)
+    place_filled x e y yr yu yp yf n hy hr hu hp hf =
+        ap (λ (c : Columns). got c e) (rw (hy, hr, hu, hp, hf) (cells_filled x)) ∙ ap (map_reading (add_place before)) (told told_place n t)
 
 -- ---- places one after the other
 

@@ -124,14 +124,14 @@ routes_start ls ss (refused n) = refl
 routes_start ls ss (got plan i) = refl
 
 -- one route more
-routes-more
+routes_more
     : (ls ss d : List ℕ) (r used k : ℕ) (v : List ℕ) (vs : Plan)
     → r < length ls
     → k ≡ length v
     → take (used + k) d ≡ take used ss ++ map stop_cell v
     → plan_behind r ls used ss (v ∷ vs) ≡ plan_behind (r + 1) (set ls r k) (used + k) d vs
 unfolding flat
-routes-more ls ss d r used k v vs o l m =
+routes_more ls ss d r used k v vs o l m =
     let a : take r ls ++ (length v ∷ lengths_of vs) ≡ take (r + 1) (set ls r k) ++ lengths_of vs =
     ap (λ (n : ℕ). take r ls ++ (n ∷ lengths_of vs)) (sym l) ∙ cell_filled ls r k (lengths_of vs) o in
     let b : take used ss ++ map stop_cell (v ++ flat vs) ≡ take (used + k) d ++ map stop_cell (flat vs) =
@@ -167,13 +167,13 @@ module _
           let f = refused_of (route_behind used ss) (route_line (64 - used) s a) g in
           sym (e ∙ ap (λ (k : ℕ). map_reading (plan_behind r ls used ss) (route_lines k (64 - used) s a)) more ∙ rw (← f))
 
-      pub routes-turn
+      pub routes_turn
           : r < length ls
           → (k j : ℕ) (d : List ℕ)
           → got (k, take (used + k) d) j ≡ map_reading (route_behind used ss) (route_line (64 - used) s a)
           → w ≡ map_reading (plan_behind (r + 1) (set ls r k) (used + k) d) (route_lines (left - 1) (64 - (used + k)) s j)
       unfolding route_lines flat
-      routes-turn o k j d g =
+      routes_turn o k j d g =
           let x = got_of (route_behind used ss) (route_line (64 - used) s a) g in
           let l : k ≡ length x.0 = ap (λ p. p.0) x.2 in
           let m : take (used + k) d ≡ take used ss ++ map stop_cell x.0 = ap (λ p. p.1) x.2 in
@@ -185,7 +185,7 @@ module _
           ∙ ap (λ (i : ℕ). map_reading (plan_behind r ls used ss) (map_reading (λ vs. x.0 ∷ vs) (route_lines (left - 1) i s j))) y
           ∙ map_map (plan_behind r ls used ss) (λ vs. x.0 ∷ vs) (route_lines (left - 1) (64 - (used + k)) s j)
           ∙ map_same (λ vs. plan_behind r ls used ss (x.0 ∷ vs)) (plan_behind (r + 1) (set ls r k) (used + k) d) (route_lines (left - 1) (64 - (used + k)) s j)
-          (λ vs. routes-more ls ss d r used k x.0 vs o l m)
+          (λ vs. routes_more ls ss d r used k x.0 vs o l m)
 
 -- ---- the bounds of a plan that was read
 

@@ -4,7 +4,7 @@ use native.Mathlib.Omega.{arith}
 use lib.ListN.{length}
 use borrow.Author.Rules.{rules}
 use Rattle.listing_lines.specs.RouteCostVisitLaws.{part_end, part_end_fits, part_length_fits}
-use Rattle.listing_routes.proofs.LineLaws.{Lining, lining_start, lining_stops, lining_prints, lining_room, lining-more, lining_end}
+use Rattle.listing_routes.proofs.LineLaws.{Lining, lining_start, lining_stops, lining_prints, lining_room, lining_more, lining_end}
 use Rattle.listing_routes.proofs.put_routes.Statement.{statement}
 use Rattle.listing_routes.proofs.put_routes.Tie as tie
 
@@ -74,7 +74,7 @@ loop-again : tie.Need-loop-preserved invariant-loop decreases-loop
 loop-again c =
     let r = c.before.before in
     let t = r.before.before.before.before in
-    lining-more _ _ _ _ _ _ _ _ _ _ _ _ t.before.loop.invariant t.loop-test.true _ (search rules) _ (search rules) _ _ _ _ r.put-route.ensures (search rules) (search rules)
+    lining_more _ _ _ _ _ _ _ _ _ _ _ _ t.before.loop.invariant t.loop-test.true _ (search rules) _ (search rules) _ _ _ _ r.put-route.ensures (search rules) (search rules)
 
 same_length : tie.Need-same-length invariant-loop decreases-loop
 same_length c = c.before.loop.invariant.lines.size

@@ -2,7 +2,7 @@
 use mathlib.Core.Path.{sym, ◌∙◌}
 use lib.Seq.{length-take-le}
 use Rattle.listing_totals.specs.listing.Listing.{of_listing}
-use Rattle.listing_whole.proofs.WholeLaws.{taken_lent, taken_all, first_room, routes_room, last_room, listing-written}
+use Rattle.listing_whole.proofs.WholeLaws.{taken_lent, taken_all, first_room, routes_room, last_room, listing_written}
 use Rattle.listing_whole.proofs.put_listing.Statement.{statement}
 use Rattle.listing_whole.proofs.put_listing.Tie as tie
 
@@ -51,7 +51,7 @@ returns c =
     let f = g.before.before.before.before.before in
     let s = f.before.before.before.before.before.before in
     let p = of_listing s.args.n s.args.demand.now s.args.distances.now s.args.vehicle in
-    listing-written s.args.lengths.now s.args.stops.now _ s.requires.1.1.0.3 p s.args.counts _ _ _ _ _ _ _ _ f.put-first-line.ensures g.put-routes.ensures h.put-last-line.ensures
+    listing_written s.args.lengths.now s.args.stops.now _ s.requires.1.1.0.3 p s.args.counts _ _ _ _ _ _ _ _ f.put-first-line.ensures g.put-routes.ensures h.put-last-line.ensures
 
 pub put-listing-spec : {M : Type 1} → statement M
 put-listing-spec =

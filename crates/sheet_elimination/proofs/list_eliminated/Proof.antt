@@ -1,7 +1,7 @@
 -- `list_eliminated` meets its contract. Assumes nothing.
 use native.Mathlib.Omega.{arith}
 use borrow.Author.Rules.{rules}
-use Rattle.sheet_answers.proofs.ListedLaws.{refusal_room, written_as, eliminate_refuses, eliminate_lists, eliminate-asks}
+use Rattle.sheet_answers.proofs.ListedLaws.{refusal_room, written_as, eliminate_refuses, eliminate_lists, eliminate_asks}
 use Rattle.sheet_elimination.proofs.list_eliminated.Statement.{statement}
 use Rattle.sheet_elimination.proofs.list_eliminated.Tie as tie
 
@@ -24,7 +24,7 @@ put-listing-requires : tie.Need-put-listing-requires
 put-listing-requires c κs =
     let b28 = c.before.before.before.before.before.before.before.before.before.before.before.before.before.before.before.before.before.before.before.before.before.before.before.before.before.before.before.before in
     let call = c.before.before.before.before.before.before.before.before.before.before.before.before.eliminate in
-    eliminate-asks _ _ _ _ _ _ _ call.ensures.0 b28.requires.0.3 b28.requires.0.4 _ _ _ c.before.before.before.before.e2.given.1 b28.requires.1 (omega (arith, call.auto.0, b28.requires.0.1)) (omega (arith, call.auto.1.0, b28.requires.0.2)) call.auto.0 _ b28.requires.0.0
+    eliminate_asks _ _ _ _ _ _ _ call.ensures.0 b28.requires.0.3 b28.requires.0.4 _ _ _ c.before.before.before.before.e2.given.1 b28.requires.1 (omega (arith, call.auto.0, b28.requires.0.1)) (omega (arith, call.auto.1.0, b28.requires.0.2)) call.auto.0 _ b28.requires.0.0
 
 same_length : tie.Need-same-length
 same_length c = c.before.before.put-refusal.auto.0

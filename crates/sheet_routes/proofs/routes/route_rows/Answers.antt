@@ -4,7 +4,7 @@ use mathlib.Core.Path.{◌∙◌}
 use native.Mathlib.Omega.{arith}
 use lib.ListN.{length, length-set}
 use borrow.Author.Rules.{rules}
-use Rattle.sheet_routes.proofs.RouteLaws.{route_at, route_refused, routes_start, route_few, routes_end, routes_fault, routes-turn}
+use Rattle.sheet_routes.proofs.RouteLaws.{route_at, route_refused, routes_start, route_few, routes_end, routes_fault, routes_turn}
 use Rattle.sheet_reader.specs.sheet_format.Form.{route_lines}
 use Rattle.sheet_routes.proofs.routes.route_rows.Goals as goal
 
@@ -22,7 +22,7 @@ overflow_add-used c = omega (arith, c.loop-left.invariant.1, route_few _ _ c.loo
 
 pub loop-left-preserved : goal.loop-left-preserved
 loop-left-preserved c = let g = route_at c.loop-left.used _ _ _ c.route_row-row.ensures _ _ c.in-Got.is in (
-  routes-turn _ _ _ _ c.loop-left.r c.loop-left.used c.loop-left.a c.loop-left.left c.loop-left.invariant.0 c.loop-left-test.true (omega arith) _ _ _ g,
+  routes_turn _ _ _ _ c.loop-left.r c.loop-left.used c.loop-left.a c.loop-left.left c.loop-left.invariant.0 c.loop-left-test.true (omega arith) _ _ _ g,
   omega (arith, c.loop-left.invariant.1, route_few _ _ c.loop-left.used _ _ _ _ g),
   omega arith,
   simp length-set c.loop-left.invariant.3,
