@@ -6,3 +6,5 @@ pub use Rattle.tail_exchange.specs.evaluation as evaluation
 pub use Rattle.tail_exchange.specs.plan as plan
 pub use Rattle.tail_exchange.specs.local_search as local_search
 pub use Rattle.tail_exchange.specs.perturbation as perturbation
+-- and their laws
+pub use Rattle.tail_exchange.specs.PerturbationMoveDraws as PerturbationMoveDraws

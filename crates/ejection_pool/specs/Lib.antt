@@ -1,13 +1,7 @@
 -- The ejection pool. A file uses only files above it in this list.
 -- the attempt to empty a route into the others
 pub mod Pool
--- the clock needs no counter
-pub mod Clock
--- every way that a turn can go, and a rule of proof for the attempt
-pub mod Turns
--- what the pool keeps
-pub mod Placing
--- what the code asks of a state, and that a turn keeps it
+-- what the code asks of a state
 pub mod Pooled
 -- the state as the code holds it
 pub mod Running

@@ -32,7 +32,7 @@ use Rattle.made_room.specs.ejection_made.Made.{stack, Made}
 use Rattle.made_room.specs.perturbation.Perturb.{Drawn, perturb}
 use Rattle.forced_insertion.specs.declared.Turn.TheVariants.{Stuck, More}
 use Rattle.ejection_pool.specs.Pool.{after_eject}
-use Rattle.ejection_pool.specs.Placing.{Placing, eject_keeps}
+use Rattle.ejection_pool.proofs.Placing.{Placing, eject_keeps}
 use Rattle.ejection_pool.specs.Running.{Forcing, is_there, put_best, one_more}
 use Rattle.forced_insertion.specs.Turned.{as_turn}
 

@@ -11,3 +11,6 @@ pub use Rattle.cheapest_insertion.specs.insertion as insertion
 pub use Rattle.made_room.specs.ejection as ejection
 pub use Rattle.made_room.specs.ejection_made as ejection_made
 pub use Rattle.ejection_pool.specs as ejection_pool
+-- and their laws
+pub use Rattle.ejection_pool.proofs.PooledLaws as EjectionPoolPooledLaws
+pub use Rattle.ejection_pool.proofs.Turns as EjectionPoolTurns

@@ -13,7 +13,7 @@ use Rattle.pool_cost.specs.route_load.Feasible.{feasible}
 use Rattle.pool_cost.specs.local_search.declared.rounds.Counts.{Counts}
 use Rattle.pool_cost.specs.local_search.Reduced.{Better, Bounded, Reduces, reduces_fewer}
 use Rattle.pool_cost.specs.ejection_pool.Pool.{Allowance, empty_into}
-use Rattle.pool_cost.specs.ejection_pool.Placing.{pool_bounded, Placing, pool_keeps}
+use Rattle.pool_cost.specs.EjectionPoolPlacing.{pool_bounded, Placing, pool_keeps}
 use Rattle.pool_cost.specs.Attempt.{if_cheaper, attempt}
 
 module _ (given : Allowance) (p : Problem) where

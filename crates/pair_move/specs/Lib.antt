@@ -6,3 +6,5 @@ pub use Rattle.drawn_moves.specs.evaluation as evaluation
 pub use Rattle.drawn_moves.specs.plan as plan
 pub use Rattle.drawn_moves.specs.local_search as local_search
 pub use Rattle.drawn_moves.specs.perturbation as perturbation
+-- and their laws
+pub use Rattle.drawn_moves.specs.PerturbationMoveDraws as PerturbationMoveDraws

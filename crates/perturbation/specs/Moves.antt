@@ -1,5 +1,5 @@
 -- What a random move may change: it leaves the number of routes and the places as they are, and the two routes that it makes are feasible and not
--- empty; and how much a perturbation draws. Assumes nothing.
+-- empty. (How much a perturbation draws: proofs/MoveDraws.) Assumes nothing.
 use Rattle.std.specs.Prelude.{ℕ, zero, suc, ◌+◌, ◌*◌, ◌-◌, ◌≤◌, ◌<◌, ◌≡◌, refl, true, cond, ◌&&◌, get_or, set, leb, ltb}
 use Rattle.std.proofs.Common.{subst, mod-lt, arith, ltb-false, leb-true, leb-false}
 use Rattle.std.proofs.lemmas.Bool.{false≢true}
@@ -164,19 +164,3 @@ perturb_rule p tape G pass Q step s q =
 -- A turn leaves every place in the plan as often as it was.
 pub move_places : (p : Problem) (tape : List ℕ) (s : Drawn) → 2 ≤ length s.routes → (c : ℕ) → occurs c (move p tape s).routes ≡ occurs c s.routes
 move_places p tape s h c = move_rule p tape (λ _. Unit {0}) (λ _ _ _. tt) (λ (x : Plan). occurs c x ≡ occurs c s.routes) s h (λ x m. m.places c) refl
-
--- ---- draws
-
-module _ (p : Problem) (tape : List ℕ) where
-  -- "moves of at most five draws each"
-  pub move_draws : (s : Drawn) → (move p tape s).draws ≤ s.draws + 5
-  unfolding move move_between
-  move_draws s =
-      cond_rule (λ (d : Drawn). d.draws ≤ s.draws + 5) (both_non_empty (draw tape s.draws (length s.routes)) (other_than (draw tape s.draws (length s.routes)) (draw tape (s.draws + 1) (length s.routes - 1))) s.routes)
-      (λ _. le_refl (s.draws + 5)) (λ _. omega arith)
-
-  pub perturb_draws : (s : Drawn) → (perturb p tape s).draws ≤ s.draws + 500
-  unfolding perturb
-  perturb_draws s =
-      cond_rule (λ (d : Drawn). d.draws ≤ s.draws + 500) (ltb (length s.routes) 2) (λ _. omega arith)
-      (λ _. loop_rule (λ i (d : Drawn). d.draws ≤ s.draws + 5 * i) 100 (λ i. move p tape) (λ i t _ h. omega (arith, move_draws t)) (omega arith))

@@ -20,8 +20,9 @@ use Rattle.pool_emptying.specs.pool_turns.declared.Emptied.{Emptied}
 use Rattle.pool_emptying.specs.pool_turns.declared.Emptied.TheVariants.{Failed, Done}
 use Rattle.pool_attempt.specs.declared.Attempted.TheVariants.{Kept, Accepted}
 use Rattle.pool_cost.specs.ejection_pool.Pool.{Allowance, State, Turn, stop, more, turn, at_limit, run_pool}
-use Rattle.pool_cost.specs.ejection_pool.Turns.{Then, turn_rule, pool_rule}
-use Rattle.pool_cost.specs.ejection_pool.Pooled.{Pooled, pooled_planned, pooled_more}
+use Rattle.pool_cost.specs.EjectionPoolTurns.{Then, turn_rule, pool_rule}
+use Rattle.pool_cost.specs.ejection_pool.Pooled.{Pooled}
+use Rattle.pool_cost.specs.EjectionPoolPooledLaws.{pooled_planned, pooled_more}
 use Rattle.pool_cost.specs.ejection_pool.Running.{Running, state}
 use Rattle.pool_emptying.specs.pool_turns.Ends.{said}
 use Rattle.pool_cost.proofs.CostLaws.{cheaper_tested}

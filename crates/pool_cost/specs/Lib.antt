@@ -17,3 +17,6 @@ pub use Rattle.ejection_pool.specs as ejection_pool
 -- and their laws
 pub use Rattle.ejection_pool.specs.LocalSearchNextLaws as LocalSearchNextLaws
 pub use Rattle.ejection_pool.specs.LocalSearchSearchLaws as LocalSearchSearchLaws
+pub use Rattle.ejection_pool.proofs.Placing as EjectionPoolPlacing
+pub use Rattle.ejection_pool.proofs.PooledLaws as EjectionPoolPooledLaws
+pub use Rattle.ejection_pool.proofs.Turns as EjectionPoolTurns

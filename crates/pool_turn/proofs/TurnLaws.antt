@@ -23,7 +23,8 @@ use Rattle.forced_insertion.specs.ejection.Eject.{eject}
 use Rattle.forced_insertion.specs.ejection_made.Made.{stack, stack_pop}
 use Rattle.forced_insertion.specs.declared.Turn.TheVariants.{Stuck, More}
 use Rattle.forced_insertion.specs.ejection_pool.Pool.{State, Turn, after_cheapest, after_eject}
-use Rattle.forced_insertion.specs.ejection_pool.Pooled.{Pooled, pooled_planned, raised}
+use Rattle.forced_insertion.specs.ejection_pool.Pooled.{Pooled}
+use Rattle.forced_insertion.specs.EjectionPoolPooledLaws.{pooled_planned, raised}
 use Rattle.forced_insertion.specs.ejection_pool.Running.{Running, Forcing, state, is_there, put_best, one_more}
 use Rattle.forced_insertion.specs.Turned.{as_turn}
 use Rattle.forced_insertion.proofs.PoolLaws.{stack_length, held_number}

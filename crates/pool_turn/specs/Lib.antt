@@ -7,3 +7,6 @@ pub use Rattle.forced_insertion.specs.insertion as insertion
 pub use Rattle.forced_insertion.specs.ejection_made as ejection_made
 pub use Rattle.forced_insertion.specs.ejection_pool as ejection_pool
 pub use Rattle.forced_insertion.specs as forced_insertion
+-- and their laws
+pub use Rattle.forced_insertion.specs.EjectionPoolPooledLaws as EjectionPoolPooledLaws
+pub use Rattle.forced_insertion.specs.EjectionPoolTurns as EjectionPoolTurns

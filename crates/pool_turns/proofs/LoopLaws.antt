@@ -17,8 +17,9 @@ use Rattle.pool_turn.specs.forced_insertion.declared.Turn.{Turn as Ended}
 use Rattle.pool_turn.specs.forced_insertion.declared.Turn.TheVariants.{Stuck, More}
 use Rattle.pool_turns.specs.declared.Emptied.TheVariants.{Failed, Done}
 use Rattle.pool_turn.specs.ejection_pool.Pool.{Allowance, State, Turn, stop, more, failed, turn, after_cheapest, run_pool}
-use Rattle.pool_turn.specs.ejection_pool.Turns.{pool_more, pool_stop, emptied, at_the_limit, clocked, goes_on}
-use Rattle.pool_turn.specs.ejection_pool.Pooled.{Pooled, pooled_fewer, pooled_more}
+use Rattle.pool_turn.specs.EjectionPoolTurns.{pool_more, pool_stop, emptied, at_the_limit, clocked, goes_on}
+use Rattle.pool_turn.specs.ejection_pool.Pooled.{Pooled}
+use Rattle.pool_turn.specs.EjectionPoolPooledLaws.{pooled_fewer, pooled_more}
 use Rattle.pool_turn.specs.ejection_pool.Running.{Running, state, allowance}
 use Rattle.pool_turn.specs.forced_insertion.Turned.{as_turn}
 use Rattle.pool_turns.specs.Ends.{said}

@@ -12,7 +12,8 @@ use Rattle.pair_move.specs.plan.Slices.{length_split, holds_self, holds_number}
 use Rattle.pair_move.specs.local_search.Planned.{Planned, planned_as}
 use Rattle.pair_move.specs.perturbation.Perturb.{Drawn, move, perturb}
 use Rattle.pair_move.specs.perturbation.Parts.{Movable}
-use Rattle.pair_move.specs.perturbation.Moves.{move_places, move_draws}
+use Rattle.pair_move.specs.perturbation.Moves.{move_places}
+use Rattle.pair_move.specs.PerturbationMoveDraws.{move_draws}
 
 abbrev pub drawn_plan : List ℕ → List ℕ → ℕ → Drawn
 drawn_plan lengths stops drawn = record { routes = split lengths stops; draws = drawn }

@@ -21,9 +21,10 @@ use Rattle.ejection_made.specs.insertion.Inserted.{insert_non_empty, Inserts, ch
 use Rattle.ejection_made.specs.ejection.declared.Ejection.{Ejection}
 use Rattle.ejection_made.specs.ejection.Eject.{kept, eject, into, make_room, gone}
 use Rattle.ejection_made.specs.ejection.Ejected.{Ejects, ejects_count, eject_found}
-use Rattle.random_moves.specs.perturbation.Moves.{Moves, perturb_rule, perturb_draws}
+use Rattle.random_moves.specs.perturbation.Moves.{Moves, perturb_rule}
+use Rattle.random_moves.specs.PerturbationMoveDraws.{perturb_draws}
 use Rattle.ejection_pool.specs.Pool.{Allowance, State, turn, at_limit, run_pool}
-use Rattle.ejection_pool.specs.Turns.{Then, turn_rule, pool_rule}
+use Rattle.ejection_pool.proofs.Turns.{Then, turn_rule, pool_rule}
 
 -- ---- steps and draws of an attempt
 
