@@ -3,16 +3,5 @@ use native.Mathlib.Omega.{arith}
 use Rattle.call_history.proofs.PutLaws.{put_both}
 use Rattle.call_history.proofs.record_slices.Goals as goal
 
-record-slices-spec =
-    tie.close
-    (tie.spec
-    add_at
-    mul_at
-    copy-part-requires
-    add-copy-part
-    copy-part-requires-2
-    same_length
-    returns)
-
 pub returns : goal.returns
 returns c = put_both c.args.history.now c.args.lengths.now c.args.stops.now _ (omega (arith, c.requires)) c.copy_part.ensures c.copy_part-2.ensures

@@ -1,0 +1,9 @@
+-- `empty_pool` meets its contract: what the check does not find alone.
+use Rattle.pool_emptying.proofs.StartLaws.{ones_running, ones_emptied}
+use Rattle.pool_emptying.proofs.empty_pool.Goals as goal
+
+pub empty_into-requires : goal.empty_into-requires
+empty_into-requires c = ones_running c.requires
+
+pub returns : goal.returns
+returns c = record { plan = ones_emptied c.requires _ _ c.empty_into.ensures.plan; held = c.empty_into.ensures.held }

@@ -1,0 +1,16 @@
+-- `list_eliminated` meets its contract: what the check does not find alone.
+use native.Mathlib.Omega.{arith}
+use Rattle.sheet_answers.proofs.ListedLaws.{refusal_room, written_as, eliminate_refuses, eliminate_lists, eliminate_asks}
+use Rattle.sheet_elimination.proofs.list_eliminated.Goals as goal
+
+pub put_refusal-requires : goal.put_refusal-requires
+put_refusal-requires c = refusal_room _ _ c.requires.in_bounds.0
+
+pub put_listing-requires : goal.put_listing-requires
+put_listing-requires c = let w = eliminate_asks _ _ _ _ _ _ _ c.eliminate-e.ensures.reply c.requires.in_bounds.3 c.requires.in_bounds.4 _ _ _ c.in-Answered.is c.requires.short (omega (arith, c.eliminate-e.auto.lengths, c.requires.in_bounds.1)) (omega (arith, c.eliminate-e.auto.stops, c.requires.in_bounds.2)) c.eliminate-e.auto.lengths _ c.requires.in_bounds.0 in record { room = w.0; n_bound = w.1.0; depot_id_bound = w.1.1.0; all = w.1.1.1 }
+
+pub returns-in-Refused : goal.returns-in-Refused
+returns-in-Refused c = written_as c.put_refusal.ensures (eliminate_refuses _ _ _ _ _ _ _ c.eliminate-e.ensures.reply c.requires.in_bounds.3 c.requires.in_bounds.4 _ _ _ c.in-Refused.is)
+
+pub returns-in-Answered : goal.returns-in-Answered
+returns-in-Answered c = written_as c.put_listing.ensures (eliminate_lists _ _ _ _ _ _ _ c.eliminate-e.ensures.reply c.requires.in_bounds.3 c.requires.in_bounds.4 _ _ _ c.in-Answered.is)

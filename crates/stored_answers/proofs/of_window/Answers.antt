@@ -1,0 +1,9 @@
+-- `of_window` meets its contract: what the check does not find alone.
+use Rattle.stored_answers.proofs.AnswerLaws.{arms}
+use Rattle.stored_answers.proofs.of_window.Goals as goal
+
+pub returns-in-None : goal.returns-in-None
+returns-in-None c = search arms
+
+pub returns-in-Is : goal.returns-in-Is
+returns-in-Is c = search arms
