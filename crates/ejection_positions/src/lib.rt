@@ -11,10 +11,7 @@ ghost use Rattle.ejection.specs.route_times.Prepared.{held};
 ghost use Rattle.ejection.specs.Eject.{chosen, try_left};
 ghost use Rattle.ejection_positions.specs.Pass.{none_outranks, pass_in_kept};
 
-use ejection::{
-    Best, Ejection, has_room, insertion_cost_insertion_cost as insertion_cost, may_pass, outranks,
-    prepare,
-};
+use ejection::{Best, Ejection, has_room, insertion_cost, may_pass, outranks, prepare};
 
 // Of the crates below, passed on to those above.
 pub use ejection::{

@@ -13,16 +13,13 @@ ghost use Rattle.route_times.specs.Prepared.{held};
 ghost use Rattle.insertion.specs.Cheapest.{cheaper};
 ghost use Rattle.insertion.specs.Pass.{may_pass, pass_position};
 
-use route_times::{
-    Insertion, RouteCostBest as Best, insertion_cost_insertion_cost as insertion_cost, may_fit,
-    trial_ok,
-};
+use route_times::{Insertion, RouteCostBest as Best, may_fit, trial_ok};
 
 // Of the crates below, passed on to those above.
 pub use route_times::{
     Counts, LocalSearchNext, Pick, Reduction, RouteCostBest, Vehicle, checked, constrained,
-    copy_part, feasible, has_room, insertion_cost_insertion_cost, next_pick, offset, prepare,
-    put_in, rounds, take_out, within_capacity,
+    copy_part, feasible, has_room, insertion_cost, next_pick, offset, prepare, put_in, rounds,
+    take_out, within_capacity,
 };
 
 // The quick test by the departures and latest arrivals in the work cells.

@@ -13,8 +13,8 @@ use quick_fit::{Window, customer_at, min, travel_time};
 // Of the crates below, passed on to those above.
 pub use quick_fit::{
     Counts, Insertion, Left, LocalSearchNext, Pick, Reduction, RouteCostBest, Vehicle, checked,
-    constrained, copy_part, feasible, has_room, infinity, insertion_cost_insertion_cost, leave,
-    may_fit, next_pick, offset, put_in, rounds, take_out, trial_ok, within_capacity,
+    constrained, copy_part, feasible, has_room, infinity, insertion_cost, leave, may_fit,
+    next_pick, offset, put_in, rounds, take_out, trial_ok, within_capacity,
 };
 
 // When service may start at the earliest, where there is a window.

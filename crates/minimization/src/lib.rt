@@ -5,5 +5,5 @@
 // Of the crates below, passed on to those above.
 pub use pool_cost::{
     Counts, LocalSearchNext, Pick, Reduction, Vehicle, constrained, copy_part, has_soft_windows,
-    next_pick, plan_cost_plan_cost, rounds,
+    next_pick, plan_cost, rounds,
 };

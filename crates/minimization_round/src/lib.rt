@@ -14,7 +14,7 @@ ghost use Rattle.minimization.specs.pool_cost.Attempt.{attempt};
 ghost use Rattle.minimization.specs.ejection_pool.Running.{allowance};
 ghost use Rattle.route_attempt.specs.route_without.Attempting.{Attempting};
 
-use minimization::{LocalSearchNext as Next, next_pick, plan_cost_plan_cost as plan_cost};
+use minimization::{LocalSearchNext as Next, next_pick, plan_cost};
 use route_attempt::{Attempted, attempt, drop_empty};
 
 // Of the crates below, passed on to those above.

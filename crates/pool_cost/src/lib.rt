@@ -10,11 +10,11 @@ ghost use Rattle.plan_cost.specs.laws.All.{All};
 ghost use Rattle.plan_cost.specs.plan.Plan.{Lent, split};
 ghost use Rattle.plan_cost.specs.route_cost.Route.{cost};
 
-use plan_cost::{abs, plan_cost};
+use plan_cost::abs;
 
 // Of the crates below, passed on to those above.
 pub use ejection_pool::{Counts, LocalSearchNext, Pick, Reduction, constrained, next_pick, rounds};
-pub use plan_cost::{Vehicle, copy_part, has_soft_windows, plan_cost as plan_cost_plan_cost};
+pub use plan_cost::{Vehicle, copy_part, has_soft_windows, plan_cost};
 
 // Whether a plan costs less than `before` by more than the tolerance.
 pub fn is_cheaper(

@@ -13,9 +13,9 @@ use quick_test::{abs, max, prev_stop};
 // Of the crates below, passed on to those above.
 pub use quick_test::{
     Counts, Insertion, Left, LocalSearchNext, Pick, Reduction, RouteCostBest, Vehicle, Window,
-    checked, constrained, copy_part, customer_at, feasible, has_room, infinity,
-    insertion_cost_insertion_cost, leave, min, next_pick, offset, put_in, rounds, take_out,
-    travel_time, trial_ok, within_capacity,
+    checked, constrained, copy_part, customer_at, feasible, has_room, infinity, insertion_cost,
+    leave, min, next_pick, offset, put_in, rounds, take_out, travel_time, trial_ok,
+    within_capacity,
 };
 
 // Whether an arrival is by a bound, with room for rounding. A bound of -infinity makes a NaN, and the answer is no.

@@ -13,9 +13,9 @@ use insertion_cost::Customer;
 // Of the crates below, passed on to those above.
 pub use insertion_cost::{
     Counts, Insertion, Left, LocalSearchNext, Pick, Reduction, RouteCostBest, Vehicle, Window, abs,
-    checked, constrained, copy_part, customer_at, feasible, has_room, infinity,
-    insertion_cost as insertion_cost_insertion_cost, max, min, next_pick, offset, prev_stop,
-    put_in, rounds, take_out, travel_time, trial_ok, within_capacity,
+    checked, constrained, copy_part, customer_at, feasible, has_room, infinity, insertion_cost,
+    max, min, next_pick, offset, prev_stop, put_in, rounds, take_out, travel_time, trial_ok,
+    within_capacity,
 };
 
 // When the service of a customer ends after `arrival`; missed once its window has closed, with a penalty or without.

@@ -1,0 +1,9 @@
+-- `print_sheet` meets its contract: what the check does not find alone.
+use Rattle.sheet_planner.proofs.OutputLaws.{bytes_there, bytes_counted}
+use Rattle.sheet_print.proofs.print_sheet.Goals as goal
+
+pub slice_bounds-write_all-end : goal.slice_bounds-write_all-end
+slice_bounds-write_all-end c = bytes_there _ _ _ _ _ c.in-Bytes.is c.plan_sheet-p.ensures c.plan_sheet-p.auto.out
+
+pub slice_bounds-write_all-end-in-Bytes : goal.slice_bounds-write_all-end-in-Bytes
+slice_bounds-write_all-end-in-Bytes c = bytes_counted _ _ _ _ _ c.in-Bytes.is c.plan_sheet-p.ensures c.plan_sheet-p.auto.out
