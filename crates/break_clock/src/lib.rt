@@ -6,7 +6,7 @@ pub mod schedule;
 
 // Of the crates below, passed on to those above.
 pub use labels::{
-    Customer, Label, Penalty, Rest, RouteLimits, Served, Taken, Vehicle, VehicleBreak, Window, abs,
-    customer_at, get, infinity, is_finite, largest, max, min, penalty_at, scale, serve_at,
-    total_less, travel_time, window_at,
+    Customer, Label, RouteLimits, TimeWindow, Vehicle, VehicleBreak, abs, customer_at, get,
+    infinity, is_finite, largest, max, min, penalty_at, scale, serve_at, total_less, travel_time,
+    window_at,
 };

@@ -2,22 +2,13 @@
 ghost use Rattle.std.specs.Prelude.{◌≡◌};
 ghost use Rattle.break_clock.specs.RouteEval.{priced_distance};
 
-use labels::Taken;
-
 #[derive(Clone, Copy)]
 pub struct RouteEval {
     pub distance: f64,
     pub duration: f64,
     pub lateness: f64,
     pub lateness_cost: f64,
-    pub rest: Taken,
-}
-
-// `Option<RouteEval>`, and `Option<Scheduled>`, whose fields are the same.
-#[derive(Clone, Copy)]
-pub enum Eval {
-    Infeasible,
-    Feasible(RouteEval),
+    pub rest: Option<(usize, f64)>,
 }
 
 impl RouteEval {

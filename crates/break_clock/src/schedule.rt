@@ -4,59 +4,49 @@ ghost use Rattle.labels.specs.models.Customer.{customers};
 ghost use Rattle.labels.specs.models.Problem.{matrix, Square, Fit};
 ghost use Rattle.break_clock.specs.Schedule.{break_clock_new, clocked, push, finish_after, finish, set_out};
 
-use crate::route_eval::{Eval, RouteEval};
-use labels::{
-    Label, Rest, Served, Taken, VehicleBreak, customer_at, lives, served_from, travel_time,
-};
+use crate::route_eval::RouteEval;
+use labels::{Label, VehicleBreak, customer_at, lives, served_from, travel_time};
 
 // The clock of a route that is extended one stop at a time. Each step takes the clock and hands the next one back, the break beside it.
 #[derive(Clone, Copy)]
 pub struct BreakClock {
-    pub before: Served,
-    pub after: Served,
+    pub before: Option<Label>,
+    pub after: Option<Label>,
     pub prev: usize,
     pub index: usize,
 }
 
-#[derive(Clone, Copy)]
-pub enum Pushed {
-    Stuck,
-    On(BreakClock),
-}
-
-// The clock that two labels make, stuck where both are dead.
-fn clocked(before: Served, after: Served, prev: usize, index: usize) -> Pushed
+// The clock that two labels make, none where both are dead.
+fn clocked(
+    before: Option<Label>,
+    after: Option<Label>,
+    prev: usize,
+    index: usize,
+) -> Option<BreakClock>
     ensures { result ≡ clocked before after prev index }
 {
-    let next = BreakClock {
-        before,
-        after,
-        prev,
-        index,
-    };
-    if lives(before) {
-        return Pushed::On(next);
+    if lives(before) || lives(after) {
+        return Some(BreakClock {
+            before,
+            after,
+            prev,
+            index,
+        });
     }
-    if lives(after) {
-        return Pushed::On(next);
-    }
-    Pushed::Stuck
+    None
 }
 
 // The end of a route by the label after the break.
-fn finish_after(after: Served, distance: f64, back: f64) -> Eval
+fn finish_after(after: Option<Label>, distance: f64, back: f64) -> Option<RouteEval>
     ensures { result ≡ finish_after after distance back }
 {
-    let Served::Live(l) = after else {
-        return Eval::Infeasible;
-    };
-    let taken = l.rest;
-    Eval::Feasible(RouteEval {
+    let l = after?;
+    Some(RouteEval {
         distance,
         duration: l.time + back,
         lateness: l.lateness,
         lateness_cost: l.lateness_cost,
-        rest: taken,
+        rest: l.rest,
     })
 }
 
@@ -66,14 +56,15 @@ impl BreakClock {
         ensures { result ≡ break_clock_new depot }
     {
         BreakClock {
-            before: Served::Live(Label::START),
-            after: Served::Dead,
+            before: Some(Label::START),
+            after: None,
             prev: depot,
             index: 0,
         }
     }
 
-    // Drives on to stop c. Stuck where no way of placing the break lets the vehicle serve the stops so far.
+    // Drives on to stop c. None where no way of placing the break lets the vehicle serve the stops so far.
+    #[tactic(auto, unfolding(crate::specs::Schedule::push))]
     pub fn push(
         self,
         rest: VehicleBreak,
@@ -86,33 +77,23 @@ impl BreakClock {
         due: &[f64],
         penalty: &[f64],
         flags: &[u8],
-    ) -> Pushed
+    ) -> Option<BreakClock>
         requires fit { Fit (customers service.now ready.now due.now penalty.now flags.now) (matrix n distances.now times.now) }
         requires prev_lt_n { (self.prev < n) × (c < n) × (self.index ≤ 256) }
         ensures { result ≡ push (customers service.now ready.now due.now penalty.now flags.now)
             (matrix n distances.now times.now) rest self c }
     {
-        let prev = self.prev;
-        let index = self.index;
-        let next = index + 1;
-        let before = self.before;
-        let after = self.after;
-        let travel = travel_time(distances, times, n, prev, c);
+        let travel = travel_time(distances, times, n, self.prev, c);
         let customer = customer_at(c, service, ready, due, penalty, flags);
-        let skipped = served_from(before, travel, index, Rest::None, customer);
-        let here = served_from(
-            before,
-            travel,
-            index,
-            Rest::Break(rest.earliest, rest.latest, rest.duration),
-            customer,
-        );
-        let carried = served_from(after, travel, index, Rest::None, customer);
-        clocked(skipped, Label::earlier(carried, here), c, next)
+        let skipped = served_from(self.before, travel, self.index, None, customer);
+        let here = served_from(self.before, travel, self.index, Some(rest), customer);
+        let carried = served_from(self.after, travel, self.index, None, customer);
+        clocked(skipped, Label::earlier(carried, here), c, self.index + 1)
     }
 
     // The route ended by the return to the depot, with `distance` in all. No break is taken where the vehicle is home by its
     // earliest; otherwise the label after the break decides.
+    #[tactic(auto, unfolding(crate::specs::Schedule::finish))]
     pub fn finish(
         self,
         rest: VehicleBreak,
@@ -121,29 +102,26 @@ impl BreakClock {
         n: usize,
         distances: &[f64],
         times: &[f64],
-    ) -> Eval
+    ) -> Option<RouteEval>
         requires square { Square (matrix n distances.now times.now) }
         requires prev_lt_n { (self.prev < n) × (depot < n) }
         ensures { result ≡ finish (matrix n distances.now times.now) rest depot self distance }
     {
-        let prev = self.prev;
-        let before = self.before;
-        let after = self.after;
-        let back = travel_time(distances, times, n, prev, depot);
-        let Served::Live(l) = before else {
-            return finish_after(after, distance, back);
+        let back = travel_time(distances, times, n, self.prev, depot);
+        let Some(l) = self.before else {
+            return finish_after(self.after, distance, back);
         };
         let duration = l.time + back;
         if duration <= rest.earliest {
-            return Eval::Feasible(RouteEval {
+            return Some(RouteEval {
                 distance,
                 duration,
                 lateness: l.lateness,
                 lateness_cost: l.lateness_cost,
-                rest: Taken::No,
+                rest: None,
             });
         }
-        finish_after(after, distance, back)
+        finish_after(self.after, distance, back)
     }
 }
 
@@ -154,20 +132,13 @@ pub struct Riding {
     pub distance: f64,
 }
 
-#[derive(Clone, Copy)]
-pub enum Ridden {
-    Stuck,
-    At(Riding),
-}
-
 impl Riding {
     // At the depot, at time 0.
     pub fn new(depot: usize) -> Riding
         ensures { result ≡ set_out depot }
     {
-        let clock = BreakClock::new(depot);
         Riding {
-            clock,
+            clock: BreakClock::new(depot),
             distance: 0.0,
         }
     }

@@ -6,18 +6,17 @@ ghost use Rattle.break_clock.specs.models.Customer.{customers};
 ghost use Rattle.break_clock.specs.models.Problem.{matrix, Square, Fit, Stops};
 ghost use Rattle.break_clock.specs.Schedule.{ride, ride_all, ride_home, schedule};
 
-use break_clock::schedule::Pushed;
-
 // Of the crates below, passed on to those above.
-pub use break_clock::route_eval::{Eval, RouteEval};
-pub use break_clock::schedule::{Ridden, Riding};
+pub use break_clock::route_eval::RouteEval;
+pub use break_clock::schedule::Riding;
 pub use break_clock::{
-    Customer, Label, Penalty, Rest, RouteLimits, Served, Taken, Vehicle, VehicleBreak, Window, abs,
-    customer_at, get, infinity, is_finite, largest, max, min, penalty_at, scale, serve_at,
-    total_less, travel_time, window_at,
+    Customer, Label, RouteLimits, TimeWindow, Vehicle, VehicleBreak, abs, customer_at, get,
+    infinity, is_finite, largest, max, min, penalty_at, scale, serve_at, total_less, travel_time,
+    window_at,
 };
 
 // The drive to the next stop, on the clock and in distance.
+#[tactic(auto, unfolding(break_clock::specs::Schedule::ride))]
 pub fn ride(
     way: Riding,
     rest: VehicleBreak,
@@ -30,28 +29,21 @@ pub fn ride(
     due: &[f64],
     penalty: &[f64],
     flags: &[u8],
-) -> Ridden
+) -> Option<Riding>
     requires fit { Fit (customers service.now ready.now due.now penalty.now flags.now) (matrix n distances.now times.now) }
     requires prev_lt_n { (way.clock.prev < n) × (c < n) × (way.clock.index ≤ 256) }
     ensures { result ≡ ride (customers service.now ready.now due.now penalty.now flags.now)
         (matrix n distances.now times.now) rest way c }
 {
-    let clock = way.clock;
-    let prev = clock.prev;
-    let distance = way.distance + get(distances, n, prev, c);
-    let pushed = clock.push(
+    let distance = way.distance + get(distances, n, way.clock.prev, c);
+    let clock = way.clock.push(
         rest, c, n, distances, times, service, ready, due, penalty, flags,
-    );
-    let Pushed::On(next) = pushed else {
-        return Ridden::Stuck;
-    };
-    Ridden::At(Riding {
-        clock: next,
-        distance,
-    })
+    )?;
+    Some(Riding { clock, distance })
 }
 
 // The stops in order, as far as they can be served with the break.
+#[tactic(auto, using(break_clock::proofs::ScheduleLaws::along_laws))]
 pub fn ride_all(
     way: Riding,
     rest: VehicleBreak,
@@ -64,29 +56,33 @@ pub fn ride_all(
     due: &[f64],
     penalty: &[f64],
     flags: &[u8],
-) -> Ridden
+) -> Option<Riding>
     requires fit { Fit (customers service.now ready.now due.now penalty.now flags.now) (matrix n distances.now times.now) }
     requires prev_lt_n { (way.clock.prev < n) × Stops n stops.now × (way.clock.index + length stops.now ≤ 257) }
     ensures { result ≡ ride_all (customers service.now ready.now due.now penalty.now flags.now)
         (matrix n distances.now times.now) rest stops.now way }
 {
     let mut at = way;
-    let mut i = 0;
-    while i < stops.len() {
-        let c = stops[i] as usize;
-        let next = ride(
-            at, rest, c, n, distances, times, service, ready, due, penalty, flags,
-        );
-        let Ridden::At(later) = next else {
-            return Ridden::Stuck;
-        };
-        at = later;
-        i += 1;
+    for c in stops {
+        at = ride(
+            at,
+            rest,
+            *c as usize,
+            n,
+            distances,
+            times,
+            service,
+            ready,
+            due,
+            penalty,
+            flags,
+        )?;
     }
-    Ridden::At(at)
+    Some(at)
 }
 
 // The return leg is added, and the clock's end decides.
+#[tactic(auto, unfolding(break_clock::specs::Schedule::ride_home))]
 pub fn ride_home(
     way: Riding,
     rest: VehicleBreak,
@@ -94,18 +90,17 @@ pub fn ride_home(
     n: usize,
     distances: &[f64],
     times: &[f64],
-) -> Eval
+) -> Option<RouteEval>
     requires square { Square (matrix n distances.now times.now) }
     requires prev_lt_n { (way.clock.prev < n) × (depot < n) }
     ensures { result ≡ ride_home (matrix n distances.now times.now) rest depot way }
 {
-    let clock = way.clock;
-    let prev = clock.prev;
-    let distance = way.distance + get(distances, n, prev, depot);
-    clock.finish(rest, distance, depot, n, distances, times)
+    let distance = way.distance + get(distances, n, way.clock.prev, depot);
+    way.clock.finish(rest, distance, depot, n, distances, times)
 }
 
 // The route depot, stops, depot with a break, or that it cannot be driven. The limits are the caller's to apply.
+#[tactic(auto, using(break_clock::proofs::ScheduleLaws::ride_ends), unfolding(break_clock::specs::Schedule::schedule))]
 pub fn schedule(
     route: &[u16],
     depot: usize,
@@ -118,13 +113,13 @@ pub fn schedule(
     due: &[f64],
     penalty: &[f64],
     flags: &[u8],
-) -> Eval
+) -> Option<RouteEval>
     requires fit { Fit (customers service.now ready.now due.now penalty.now flags.now) (matrix n distances.now times.now) }
     requires depot_lt_n { (depot < n) × Stops n route.now }
     ensures { result ≡ schedule (customers service.now ready.now due.now penalty.now flags.now)
         (matrix n distances.now times.now) depot rest route.now }
 {
-    let ridden = ride_all(
+    let at = ride_all(
         Riding::new(depot),
         rest,
         route,
@@ -136,9 +131,6 @@ pub fn schedule(
         due,
         penalty,
         flags,
-    );
-    let Ridden::At(at) = ridden else {
-        return Eval::Infeasible;
-    };
+    )?;
     ride_home(at, rest, depot, n, distances, times)
 }

@@ -4,11 +4,10 @@
 
 ghost use Rattle.std.specs.Prelude.{◌≡◌, [], length};
 ghost use Rattle.c_evaluations.specs.planner.Calls.{answered};
-ghost use Rattle.c_evaluations.specs.planner.Told.{replied_told};
-ghost use Rattle.c_evaluations.specs.planner_questions.Told.{checked_told, number_told};
+ghost use Rattle.c_evaluations.specs.planner.Told.{told};
 ghost use Rattle.c_evaluations.specs.c_values.Said.{values, says, put, checked_values, number_values, window_values, reduction_values};
 
-use c_evaluations::{Checked, Number, Replied, Window, put_numbers};
+use c_evaluations::{Reduction, Refusal, TimeWindow, put_numbers};
 
 // Of the crates below, passed on to those above.
 pub use c_evaluations::{
@@ -17,50 +16,46 @@ pub use c_evaluations::{
 };
 
 // Yes or no.
-pub fn put_checked(found: &mut [u64], a: Checked) -> u8
+pub fn put_checked(found: &mut [u64], a: Result<bool, Refusal>) -> u8
     requires { length found.old ≡ 1 }
-    ensures { says result [] found.new ≡ put checked_values (values [] found.old) (checked_told a) }
+    ensures { says result [] found.new ≡ put checked_values (values [] found.old) (told a) }
 {
     match a {
-        Checked::Refused(n) => n,
-        Checked::Answered(passes) => {
-            if passes {
-                found[0] = 1;
-                return 0;
-            }
-            found[0] = 0;
+        Ok(passes) => {
+            found[0] = if passes { 1 } else { 0 };
             0
         }
+        Err(refusal) => refusal.number(),
     }
 }
 
 // A number.
-pub fn put_number(out: &mut [f64], a: Number) -> u8
+pub fn put_number(out: &mut [f64], a: Result<f64, Refusal>) -> u8
     requires { length out.old ≡ 1 }
-    ensures { says result out.new [] ≡ put number_values (values out.old []) (number_told a) }
+    ensures { says result out.new [] ≡ put number_values (values out.old []) (told a) }
 {
     match a {
-        Number::Refused(n) => n,
-        Number::Answered(x) => {
+        Ok(x) => {
             out[0] = x;
             0
         }
+        Err(refusal) => refusal.number(),
     }
 }
 
 // A window.
-pub fn put_window(out: &mut [f64], found: &mut [u64], w: Window) -> u8
+pub fn put_window(out: &mut [f64], found: &mut [u64], w: Option<TimeWindow>) -> u8
     requires { (length out.old ≡ 2) × (length found.old ≡ 1) }
     ensures { says result out.new found.new ≡ put window_values (values out.old found.old) (answered w) }
 {
     match w {
-        Window::None => {
+        None => {
             out[0] = 0.0;
             out[1] = 0.0;
             found[0] = 0;
             0
         }
-        Window::Is(tw) => {
+        Some(tw) => {
             out[0] = tw.ready;
             out[1] = tw.due;
             found[0] = 1;
@@ -70,16 +65,16 @@ pub fn put_window(out: &mut [f64], found: &mut [u64], w: Window) -> u8
 }
 
 // What a call that changes a plan did: routes left, steps, draws.
-pub fn put_reply(counts: &mut [u64], a: Replied) -> u8
+pub fn put_reply(counts: &mut [u64], a: Result<Reduction, Refusal>) -> u8
     requires { length counts.old ≡ 3 }
-    ensures { says result [] counts.new ≡ put reduction_values (values [] counts.old) (replied_told a) }
+    ensures { says result [] counts.new ≡ put reduction_values (values [] counts.old) (told a) }
 {
     match a {
-        Replied::Refused(n) => n,
-        Replied::Answered(done) => {
+        Ok(done) => {
             let counted = done.counts;
             put_numbers(counts, done.routes as u64, counted.steps, counted.draws);
             0
         }
+        Err(refusal) => refusal.number(),
     }
 }

@@ -3,17 +3,17 @@
 
 ghost use Rattle.std.specs.Prelude.{◌≡◌, [], ◌∷◌, length};
 ghost use Rattle.planner_questions.specs.planner.Calls.{answered};
-ghost use Rattle.planner_questions.specs.Told.{evaluated_told};
+ghost use Rattle.planner_questions.specs.planner.Told.{told};
 ghost use Rattle.c_values.specs.Said.{values, says, put, evaluated, eval_values};
 
-use planner_questions::{Eval, Evaluated, RouteEval, Taken};
+use planner_questions::RouteEval;
 
 // Of the crates below, passed on to those above.
 pub use c_values::{
     checked_misfit, evaluated_misfit, list_misfit, number_misfit, reply_misfit, sheet_misfit,
     window_misfit,
 };
-pub use planner_questions::{Checked, Number, Replied, Window};
+pub use planner_questions::{Reduction, Refusal, TimeWindow};
 
 // Five floats.
 fn put_floats(out: &mut [f64], a: f64, b: f64, c: f64, d: f64, e: f64)
@@ -44,7 +44,7 @@ fn put_route(out: &mut [f64], found: &mut [u64], e: RouteEval)
 {
     let rest = e.rest;
     match rest {
-        Taken::No => {
+        None => {
             put_floats(
                 out,
                 e.distance,
@@ -55,7 +55,7 @@ fn put_route(out: &mut [f64], found: &mut [u64], e: RouteEval)
             );
             put_numbers(found, 1, 0, 0);
         }
-        Taken::At(stop, start) => {
+        Some((stop, start)) => {
             put_floats(
                 out,
                 e.distance,
@@ -70,17 +70,17 @@ fn put_route(out: &mut [f64], found: &mut [u64], e: RouteEval)
 }
 
 // An evaluation. It returns 0.
-fn put_eval(out: &mut [f64], found: &mut [u64], worth: Eval) -> u8
+fn put_eval(out: &mut [f64], found: &mut [u64], worth: Option<RouteEval>) -> u8
     requires { (length out.old ≡ 5) × (length found.old ≡ 3) }
     ensures { says result out.new found.new ≡ put eval_values (values out.old found.old) (answered worth) }
 {
     match worth {
-        Eval::Infeasible => {
+        None => {
             put_floats(out, 0.0, 0.0, 0.0, 0.0, 0.0);
             put_numbers(found, 0, 0, 0);
             0
         }
-        Eval::Feasible(e) => {
+        Some(e) => {
             put_route(out, found, e);
             0
         }
@@ -88,12 +88,16 @@ fn put_eval(out: &mut [f64], found: &mut [u64], worth: Eval) -> u8
 }
 
 // The evaluation of a route, or a refusal.
-pub fn put_evaluated(out: &mut [f64], found: &mut [u64], a: Evaluated) -> u8
+pub fn put_evaluated(
+    out: &mut [f64],
+    found: &mut [u64],
+    a: Result<Option<RouteEval>, Refusal>,
+) -> u8
     requires { (length out.old ≡ 5) × (length found.old ≡ 3) }
-    ensures { says result out.new found.new ≡ put eval_values (values out.old found.old) (evaluated_told a) }
+    ensures { says result out.new found.new ≡ put eval_values (values out.old found.old) (told a) }
 {
     match a {
-        Evaluated::Refused(n) => n,
-        Evaluated::Answered(worth) => put_eval(out, found, worth),
+        Ok(worth) => put_eval(out, found, worth),
+        Err(refusal) => refusal.number(),
     }
 }

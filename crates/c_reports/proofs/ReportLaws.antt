@@ -2,13 +2,12 @@
 use Prim.Native.Nat.{ℕ}
 use mathlib.Core.Path.{◌≡◌}
 use mathlib.Core.List.{List}
+use Rattle.std.specs.Prelude.{Option, Some}
 use lib.ListN.{length, set}
-use Rattle.sheet_planner.specs.declared.Printed.{Printed}
-use Rattle.sheet_planner.specs.declared.Printed.TheVariants.{Bytes}
 use Rattle.c_values.proofs.AnswerLaws.{one_cell}
 use Rattle.c_reports.specs.Reports.{printed_code, bytes_written}
 
-module _ (p : Printed) (n : ℕ) (e : p ≡ Bytes n) where
+module _ (p : Option ℕ) (n : ℕ) (e : p ≡ Some n) where
   pub code_told : 0 ≡ printed_code p
   code_told = rw e
 

@@ -1,21 +1,18 @@
 -- The number that C is told after a list of calls and after a sheet, and the number of bytes. Assumes nothing.
-use Rattle.std.specs.Prelude.{ℕ, List, [], ◌∷◌}
-use Rattle.call_lists.specs.declared.Ran.{Ran}
-use Rattle.call_lists.specs.declared.Ran.TheVariants.{Malformed, Done}
-use Rattle.sheet_planner.specs.declared.Printed.{Printed}
-use Rattle.sheet_planner.specs.declared.Printed.TheVariants.{NoRoom, Bytes}
+use Rattle.std.specs.Prelude.{ℕ, List, [], ◌∷◌, Option, None, Some, Result, Ok, Err}
+use Rattle.call_lists.specs.declared.Malformed.{Malformed}
 
 -- 102 where the words are malformed
-abbrev pub ran_code : Ran → ℕ
-ran_code Malformed = 102
-ran_code (Done n) = 0
+abbrev pub ran_code : Result ℕ Malformed → ℕ
+ran_code (Ok n) = 0
+ran_code (Err e) = 102
 
 -- 100 where there was no room
-abbrev pub printed_code : Printed → ℕ
-printed_code NoRoom = 100
-printed_code (Bytes n) = 0
+abbrev pub printed_code : Option ℕ → ℕ
+printed_code None = 100
+printed_code (Some n) = 0
 
 -- the number of bytes, in a slice of one number
-abbrev pub bytes_written : Printed → List ℕ → List ℕ
-bytes_written NoRoom written = written
-bytes_written (Bytes n) written = n ∷ []
+abbrev pub bytes_written : Option ℕ → List ℕ → List ℕ
+bytes_written None written = written
+bytes_written (Some n) written = n ∷ []

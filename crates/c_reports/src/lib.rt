@@ -4,32 +4,31 @@
 ghost use Rattle.std.specs.Prelude.{◌≡◌, length};
 ghost use Rattle.c_reports.specs.Reports.{ran_code, printed_code, bytes_written};
 
-use call_lists::Ran;
-use sheet_planner::Printed;
+use call_lists::Malformed;
 
 // Of the crates below, passed on to those above.
 pub use call_lists::{eliminate, minimise, run_calls};
 pub use sheet_planner::plan_sheet;
 
 // The number for a list of calls.
-pub fn ran_code(ran: Ran) -> u8
+pub fn ran_code(ran: Result<usize, Malformed>) -> u8
     ensures { result ≡ ran_code ran }
 {
     match ran {
-        Ran::Malformed => 102,
-        Ran::Done(_) => 0,
+        Ok(_) => 0,
+        Err(Malformed) => 102,
     }
 }
 
 // The number for a sheet, and how many bytes it printed.
-pub fn put_printed(written: &mut [u64], p: Printed) -> u8
+pub fn put_printed(written: &mut [u64], p: Option<usize>) -> u8
     requires { length written.old ≡ 1 }
     ensures code { result ≡ printed_code p }
     ensures number { written.new ≡ bytes_written p written.old }
 {
     match p {
-        Printed::NoRoom => 100,
-        Printed::Bytes(n) => {
+        None => 100,
+        Some(n) => {
             written[0] = n as u64;
             0
         }

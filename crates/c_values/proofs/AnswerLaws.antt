@@ -1,4 +1,5 @@
 -- Answers in the slices that are lent for them, as the code writes them. Assumes nothing.
+use Rattle.std.specs.Prelude.{Option, Some, None, Result, Ok, Err}
 use Prim.Native.Nat.{ℕ}
 use mathlib.Core.Path.{◌≡◌, refl, sym, ap, ◌∙◌}
 use mathlib.Core.List.{List, [], ◌∷◌}
@@ -10,20 +11,15 @@ use borrow.Author.Tests.{eq-eqb, ne_eqb, eqb-true}
 use Rattle.planner.specs.laws.Loops.{cond_rule}
 use Rattle.planner.specs.floats.Binary64.{0f}
 use Rattle.planner.specs.models.declared.customer.TimeWindow.{TimeWindow}
-use Rattle.planner.specs.models.declared.customer.Window.{Window}
-use Rattle.planner.specs.models.declared.customer.Window.TheVariants.{None as NoWindow, Is as WindowIs}
-use Rattle.planner.specs.labels.declared.Taken.{Taken}
-use Rattle.planner.specs.labels.declared.Taken.TheVariants.{No as NotTaken, At as TakenAt}
 use Rattle.planner.specs.break_clock.declared.route_eval.RouteEval.{RouteEval}
-use Rattle.planner.specs.break_clock.declared.route_eval.Eval.{Eval}
-use Rattle.planner.specs.break_clock.declared.route_eval.Eval.TheVariants.{Infeasible, Feasible}
 use Rattle.planner.specs.plan.Plan.{Slices}
 use Rattle.planner.specs.local_search.declared.rounds.Reduction.{Reduction}
 use Rattle.planner.specs.Calls.{Answer, refused, answered, Reply}
-use Rattle.planner.specs.declared.calls.Replied.{Replied}
-use Rattle.planner.specs.declared.calls.Replied.TheVariants.{Refused as NotReplied, Answered as RepliedAs}
-use Rattle.planner.specs.Told.{replied_told, FreeIfAnswered}
-use Rattle.c_fits.specs.Misfit.{misfit}
+use Rattle.planner.specs.entry.refusal.declared.Refusal.{Refusal}
+use Rattle.planner.specs.Told.{told, FreeIfAnswered}
+use Rattle.c_fits.specs.declared.Fault.{Fault}
+use Rattle.c_fits.specs.declared.Fault.TheVariants.{Length, Given}
+use Rattle.c_fits.specs.Misfit.{code, misfit}
 use Rattle.c_values.specs.Said.{Values, values, Said, says, put, question, evaluated, eval_values, window_values, reduction_values, plan_call, FreeIfDone}
 
 -- ---- a slice whose cells are all written
@@ -65,25 +61,31 @@ module _ {A : Type 0} (into : A → Values) (out : Values) (b : Answer A) where
 -- ---- evaluations and windows
 
 module _ (fs : List Float) (ns : List ℕ) where
-  pub route_plain : (d t l k : Float) (r : Taken) → r ≡ NotTaken → fs ≡ d ∷ t ∷ l ∷ k ∷ 0f ∷ [] → ns ≡ 1 ∷ 0 ∷ 0 ∷ [] → values fs ns ≡ evaluated d t l k r
+  pub route_plain : (d t l k : Float) (r : Option (ℕ × Float)) → r ≡ None → fs ≡ d ∷ t ∷ l ∷ k ∷ 0f ∷ [] → ns ≡ 1 ∷ 0 ∷ 0 ∷ [] → values fs ns ≡ evaluated d t l k r
   route_plain d t l k r e f g = rw (e, f, g)
 
-  pub route_rested : (d t l k : Float) (r : Taken) (i : ℕ) (x : Float) → r ≡ TakenAt i x → fs ≡ d ∷ t ∷ l ∷ k ∷ x ∷ [] → ns ≡ 1 ∷ 1 ∷ i ∷ [] → values fs ns ≡ evaluated d t l k r
+  pub route_rested : (d t l k : Float) (r : Option (ℕ × Float)) (i : ℕ) (x : Float) → r ≡ Some (i, x) → fs ≡ d ∷ t ∷ l ∷ k ∷ x ∷ [] → ns ≡ 1 ∷ 1 ∷ i ∷ [] → values fs ns ≡ evaluated d t l k r
   route_rested d t l k r i x e f g = rw (e, f, g)
 
-  pub eval_none : (w : Eval) → w ≡ Infeasible → fs ≡ 0f ∷ 0f ∷ 0f ∷ 0f ∷ 0f ∷ [] → ns ≡ 0 ∷ 0 ∷ 0 ∷ [] → says 0 fs ns ≡ record { code = 0; after = eval_values w }
+  pub eval_none : (w : Option RouteEval) → w ≡ None → fs ≡ 0f ∷ 0f ∷ 0f ∷ 0f ∷ 0f ∷ [] → ns ≡ 0 ∷ 0 ∷ 0 ∷ [] → says 0 fs ns ≡ record { code = 0; after = eval_values w }
   eval_none w e f g = rw (e, f, g)
 
-  pub eval_some : (w : Eval) (x : RouteEval) → w ≡ Feasible x → values fs ns ≡ evaluated x.distance x.duration x.lateness x.lateness_cost x.rest
+  pub eval_some : (w : Option RouteEval) (x : RouteEval) → w ≡ Some x → values fs ns ≡ evaluated x.distance x.duration x.lateness x.lateness_cost x.rest
       → says 0 fs ns ≡ record { code = 0; after = eval_values w }
   eval_some w x e f = rw e (ap (λ (v : Values). record { code = 0; after = v }) f)
 
   module _ (floats : length fs ≡ 2) (numbers : length ns ≡ 1) where
-    pub window_none : (w : Window) → w ≡ NoWindow → says 0 (set (set fs 0 0f) 1 0f) (set ns 0 0) ≡ record { code = 0; after = window_values w }
+    pub window_none : (w : Option TimeWindow) → w ≡ None → says 0 (set (set fs 0 0f) 1 0f) (set ns 0 0) ≡ record { code = 0; after = window_values w }
     window_none w e = rw (e, two_cells fs 0f 0f floats, one_cell ns 0 numbers)
 
-    pub window_some : (w : Window) (t : TimeWindow) → w ≡ WindowIs t → says 0 (set (set fs 0 t.ready) 1 t.due) (set ns 0 1) ≡ record { code = 0; after = window_values w }
+    pub window_some : (w : Option TimeWindow) (t : TimeWindow) → w ≡ Some t → says 0 (set (set fs 0 t.ready) 1 t.due) (set ns 0 1) ≡ record { code = 0; after = window_values w }
     window_some w t e = rw (e, two_cells fs t.ready t.due floats, one_cell ns 1 numbers)
+
+-- ---- no fault has the number 0
+
+pub fault_told : (f : Fault) (m : ℕ) → m ≡ code f → m ≡ 0 → ⊥
+fault_told Length m e z = omega (arith, e, z)
+fault_told Given m e z = omega (arith, e, z)
 
 -- ---- a question: what it returns where a slice or `given` does not fit, and where all fit
 
@@ -127,7 +129,7 @@ module _ (given : ℕ) (counts : List ℕ) (first : Slices) (m : ℕ) (e : m ≡
 
 -- ---- the cells that a call is lent to work in
 
-pub reply_free : {A : Type 0} (a : Replied) (code : ℕ) (counts counts₁ : List ℕ) (before after : A)
-    → says code [] counts₁ ≡ put reduction_values (values [] counts) (replied_told a) → FreeIfAnswered a before after → FreeIfDone code before after
-reply_free (NotReplied n) code counts counts₁ before after e f h = f
-reply_free (RepliedAs d) code counts counts₁ before after e f h = absurd (h (ap (λ (s : Said). s.code) e))
+pub reply_free : {A : Type 0} (a : Result Reduction Refusal) (code : ℕ) (counts counts₁ : List ℕ) (before after : A)
+    → says code [] counts₁ ≡ put reduction_values (values [] counts) (told a) → FreeIfAnswered a before after → FreeIfDone code before after
+reply_free (Ok d) code counts counts₁ before after e f h = absurd (h (ap (λ (s : Said). s.code) e))
+reply_free (Err r) code counts counts₁ before after e f h = f

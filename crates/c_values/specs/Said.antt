@@ -1,14 +1,10 @@
 -- What a function of the C interface returns, and what it leaves in the slices that it is lent for its answer. Assumes nothing.
-use Rattle.std.specs.Prelude.{ℕ, ◌≡◌, List, [], ◌∷◌, Bool, cond, length, eqb, Float}
+use Rattle.std.specs.Prelude.{ℕ, ◌≡◌, List, [], ◌∷◌, Bool, cond, length, eqb, Float, Option, Some, None}
 use Rattle.planner.specs.floats.Binary64.{0f}
-use Rattle.planner.specs.models.declared.customer.Window.{Window}
-use Rattle.planner.specs.models.declared.customer.Window.TheVariants.{None as NoWindow, Is as WindowIs}
-use Rattle.planner.specs.labels.declared.Taken.{Taken}
-use Rattle.planner.specs.labels.declared.Taken.TheVariants.{No as NotTaken, At as TakenAt}
-use Rattle.planner.specs.break_clock.declared.route_eval.Eval.{Eval}
-use Rattle.planner.specs.break_clock.declared.route_eval.Eval.TheVariants.{Infeasible, Feasible}
 use Rattle.planner.specs.plan.Plan.{Slices}
 use Rattle.planner.specs.local_search.declared.rounds.Reduction.{Reduction}
+use Rattle.planner.specs.models.declared.customer.TimeWindow.{TimeWindow}
+use Rattle.planner.specs.break_clock.declared.route_eval.RouteEval.{RouteEval}
 use Rattle.planner.specs.Calls.{Answer, refused, answered, Reply}
 use Rattle.planner.specs.Told.{slices_of}
 use Rattle.c_fits.specs.Misfit.{misfit}
@@ -57,19 +53,19 @@ number_values x = values (x ∷ []) []
 
 -- A route that passes. Floats: distance, duration, lateness, lateness cost, start of the break; numbers: whether it passes, whether the break is taken,
 -- at which stop. What there is not is 0.
-abbrev pub evaluated : Float → Float → Float → Float → Taken → Values
-evaluated distance duration lateness cost NotTaken = values (distance ∷ duration ∷ lateness ∷ cost ∷ 0f ∷ []) (1 ∷ 0 ∷ 0 ∷ [])
-evaluated distance duration lateness cost (TakenAt stop start) = values (distance ∷ duration ∷ lateness ∷ cost ∷ start ∷ []) (1 ∷ 1 ∷ stop ∷ [])
+abbrev pub evaluated : Float → Float → Float → Float → Option (ℕ × Float) → Values
+evaluated distance duration lateness cost None = values (distance ∷ duration ∷ lateness ∷ cost ∷ 0f ∷ []) (1 ∷ 0 ∷ 0 ∷ [])
+evaluated distance duration lateness cost (Some (stop, start)) = values (distance ∷ duration ∷ lateness ∷ cost ∷ start ∷ []) (1 ∷ 1 ∷ stop ∷ [])
 
 -- `route_eval`, `schedule`
-abbrev pub eval_values : Eval → Values
-eval_values Infeasible = values (0f ∷ 0f ∷ 0f ∷ 0f ∷ 0f ∷ []) (0 ∷ 0 ∷ 0 ∷ [])
-eval_values (Feasible e) = evaluated e.distance e.duration e.lateness e.lateness_cost e.rest
+abbrev pub eval_values : Option RouteEval → Values
+eval_values None = values (0f ∷ 0f ∷ 0f ∷ 0f ∷ 0f ∷ []) (0 ∷ 0 ∷ 0 ∷ [])
+eval_values (Some e) = evaluated e.distance e.duration e.lateness e.lateness_cost e.rest
 
 -- `TimeWindow::new`. Floats: ready, due; numbers: whether there is a window.
-abbrev pub window_values : Window → Values
-window_values NoWindow = values (0f ∷ 0f ∷ []) (0 ∷ [])
-window_values (WindowIs w) = values (w.ready ∷ w.due ∷ []) (1 ∷ [])
+abbrev pub window_values : Option TimeWindow → Values
+window_values None = values (0f ∷ 0f ∷ []) (0 ∷ [])
+window_values (Some w) = values (w.ready ∷ w.due ∷ []) (1 ∷ [])
 
 -- ---- the two calls that change a plan
 

@@ -1,10 +1,7 @@
 -- The vehicle as C hands it over: numbers, and a number `given` whose bits say which of them there are. Assumes nothing.
-use Rattle.std.specs.Prelude.{ℕ, ◌/◌, ◌%◌, Bool, cond, eqb, ℤ, Float}
-use Rattle.models.specs.declared.vehicle.Limit.{Limit}
-use Rattle.models.specs.declared.vehicle.Limit.TheVariants.{None as NoLimit, At as LimitAt}
-use Rattle.models.specs.declared.vehicle.Rest.{Rest}
-use Rattle.models.specs.declared.vehicle.Rest.TheVariants.{None as NoRest, Break}
+use Rattle.std.specs.Prelude.{ℕ, ◌/◌, ◌%◌, Bool, cond, eqb, ℤ, Float, Option, Some, None}
 use Rattle.models.specs.declared.vehicle.Vehicle.{Vehicle}
+use Rattle.models.specs.declared.vehicle.VehicleBreak.{VehicleBreak}
 
 -- bit 0: there is a limit on the distance
 abbrev pub has_max_distance : ℕ → Bool
@@ -19,12 +16,12 @@ abbrev pub has_rest : ℕ → Bool
 has_rest given = eqb (given / 4 % 2) 1
 
 -- "A limit is either none or a number"
-abbrev pub limit_of : Bool → Float → Limit
-limit_of there most = cond there (LimitAt most) NoLimit
+abbrev pub limit_of : Bool → Float → Option Float
+limit_of there most = cond there (Some most) None
 
 -- "so is a break, with earliest, latest, duration"
-abbrev pub rest_of : Bool → Float → Float → Float → Rest
-rest_of there earliest latest duration = cond there (Break earliest latest duration) NoRest
+abbrev pub rest_of : Bool → Float → Float → Float → Option VehicleBreak
+rest_of there earliest latest duration = cond there (Some (record { earliest = earliest; latest = latest; duration = duration })) None
 
 -- the vehicle of the numbers; a value whose bit is clear is not read
 unfoldable pub vehicle_of : ℤ → ℕ → Float → Float → ℕ → Float → Float → Float → Float → Float → Vehicle

@@ -4,23 +4,27 @@
 ghost use Rattle.std.specs.Prelude.{◌≡◌};
 ghost use Rattle.c_vehicle.specs.VehicleOf.{limit_of, rest_of, vehicle_of};
 
-use models::vehicle::{Limit, Rest, Vehicle};
+use models::vehicle::{Vehicle, VehicleBreak};
 
 // A limit, where there is one.
-fn limit_of(there: bool, most: f64) -> Limit
+fn limit_of(there: bool, most: f64) -> Option<f64>
     ensures { result ≡ limit_of there most }
 {
-    if there { Limit::At(most) } else { Limit::None }
+    if there { Some(most) } else { None }
 }
 
 // A break, where there is one.
-fn rest_of(there: bool, earliest: f64, latest: f64, duration: f64) -> Rest
+fn rest_of(there: bool, earliest: f64, latest: f64, duration: f64) -> Option<VehicleBreak>
     ensures { result ≡ rest_of there earliest latest duration }
 {
     if there {
-        Rest::Break(earliest, latest, duration)
+        Some(VehicleBreak {
+            earliest,
+            latest,
+            duration,
+        })
     } else {
-        Rest::None
+        None
     }
 }
 

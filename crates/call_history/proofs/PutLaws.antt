@@ -1,15 +1,16 @@
 -- What is recorded: values put into a list. Assumes nothing.
 use Prim.Native.Nat.{ℕ, suc, ◌+◌, ◌≤◌}
-use mathlib.Core.Path.{◌≡◌, sym, ap, ◌∙◌}
+use mathlib.Core.Path.{◌≡◌, ◌∙◌}
 use mathlib.Core.List.{List, [], ◌∷◌, ◌++◌, append_assoc}
+use Rattle.std.specs.Prelude.{Result, Ok, Err}
 use native.Mathlib.Omega.{arith}
 use lib.ListN.{length, take, drop, set, length-append}
 use lib.Seq.{paste, sets-eq, take-length, length-take-le}
 use Rattle.call_words.specs.laws.Lists.{paste_on}
 use Rattle.call_words.specs.local_search.declared.rounds.Reduction.{Reduction}
-use Rattle.call_words.specs.planner.declared.calls.Replied.{Replied}
-use Rattle.call_words.specs.planner.declared.calls.Replied.TheVariants.{Refused as NotReplied, Answered as RepliedAs}
-use Rattle.call_words.specs.planner.Told.{replied_told}
+use Rattle.call_words.specs.entry.refusal.declared.Refusal.{Refusal}
+use Rattle.call_words.specs.entry.refusal.Number.{number}
+use Rattle.call_words.specs.planner.Told.{told}
 use Rattle.call_words.specs.Words.{answer_words, put}
 
 pub put_four : (xs : List ℕ) (at a b c d : ℕ) → at + 4 ≤ length xs
@@ -31,10 +32,9 @@ put_both xs us vs at {ys} {zs} h e f =
 
 -- ---- `record_answer`
 
-module _ (xs ys : List ℕ) (at : ℕ) (a : Replied) where
-  pub refused_put : (n : ℕ) → a ≡ NotReplied n → ys ≡ put xs at (n ∷ 0 ∷ 0 ∷ 0 ∷ []) → ys ≡ put xs at (answer_words (replied_told a))
-  refused_put n e f = f ∙ ap (λ (b : Replied). put xs at (answer_words (replied_told b))) (sym e)
+module _ (xs ys : List ℕ) (at : ℕ) (a : Result Reduction Refusal) where
+  pub refused_put : (e : Refusal) (n : ℕ) → a ≡ Err e → n ≡ number e → ys ≡ put xs at (n ∷ 0 ∷ 0 ∷ 0 ∷ []) → ys ≡ put xs at (answer_words (told a))
+  refused_put e n g k f = rw (g, ← k) f
 
-  pub answered_put : (d : Reduction) → a ≡ RepliedAs d → ys ≡ put xs at (0 ∷ d.routes ∷ d.counts.steps ∷ d.counts.draws ∷ [])
-      → ys ≡ put xs at (answer_words (replied_told a))
-  answered_put d e f = f ∙ ap (λ (b : Replied). put xs at (answer_words (replied_told b))) (sym e)
+  pub answered_put : (d : Reduction) → a ≡ Ok d → ys ≡ put xs at (0 ∷ d.routes ∷ d.counts.steps ∷ d.counts.draws ∷ []) → ys ≡ put xs at (answer_words (told a))
+  answered_put d g f = rw g f

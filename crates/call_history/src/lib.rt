@@ -2,10 +2,10 @@
 #![tactic(auto)]
 
 ghost use Rattle.std.specs.Prelude.{◌≡◌, [], ◌∷◌, ◌++◌, ◌+◌, ◌*◌, ◌≤◌, length};
-ghost use Rattle.call_words.specs.planner.Told.{replied_told};
+ghost use Rattle.call_words.specs.planner.Told.{told};
 ghost use Rattle.call_words.specs.Words.{answer_words, put};
 
-use call_words::{Replied, copy_part};
+use call_words::{Reduction, Refusal, copy_part};
 
 // Of the crates below, passed on to those above.
 pub use call_words::{Vehicle, well_formed, words_at};
@@ -22,13 +22,12 @@ fn put_words(answers: &mut [u64], at: usize, refusal: u64, routes: u64, steps: u
 }
 
 // The answer of call i, in four words.
-pub fn record_answer(answers: &mut [u64], i: usize, a: Replied)
+pub fn record_answer(answers: &mut [u64], i: usize, a: Result<Reduction, Refusal>)
     requires { i * 4 + 4 ≤ length answers.old }
-    ensures { answers.new ≡ put answers.old (i * 4) (answer_words (replied_told a)) }
+    ensures { answers.new ≡ put answers.old (i * 4) (answer_words (told a)) }
 {
     match a {
-        Replied::Refused(number) => put_words(answers, i * 4, number as u64, 0, 0, 0),
-        Replied::Answered(done) => {
+        Ok(done) => {
             let counts = done.counts;
             put_words(
                 answers,
@@ -39,6 +38,7 @@ pub fn record_answer(answers: &mut [u64], i: usize, a: Replied)
                 counts.draws,
             )
         }
+        Err(refusal) => put_words(answers, i * 4, refusal.number() as u64, 0, 0, 0),
     }
 }
 

@@ -3,7 +3,7 @@ use Prim.Native.Nat.{ℕ, zero, suc, ◌+◌, ◌*◌, ◌-◌, ◌≤◌, ◌<�
 use mathlib.Core.Path.{◌≡◌, refl, sym, ap, subst, ◌∙◌}
 use mathlib.Core.Bool.{true, ◌&&◌}
 use mathlib.Core.List.{List, [], ◌∷◌, ◌++◌, append-nil, append_assoc}
-use mathlib.Core.Option.{Option, none, some}
+use Rattle.std.specs.Prelude.{Option, None, Some}
 use native.Mathlib.Nat.{le_refl, mul-le-mul_right, sub_self, sub-zero, zero-mul, one-mul, add-mul}
 use native.Mathlib.Omega.{arith}
 use lib.ListN.{length, take, drop, length-append}
@@ -31,23 +31,23 @@ use Rattle.recorded_call.specs.CallWordsFormLaws.{words_more}
 
 -- ---- the number of a refusal is not 0
 
-first_number : (rs : List Row) → All (λ r. 0 < r.number) rs → (x : Inputs) (n : ℕ) → first_applying rs x ≡ some n → 0 < n
+first_number : (rs : List Row) → All (λ r. 0 < r.number) rs → (x : Inputs) (n : ℕ) → first_applying rs x ≡ Some n → 0 < n
 unfolding first_applying
 first_number [] a x n e = let z : ◌≡◌ {A = ℕ} 0 1 = cc in absurd (omega arith)
 first_number (r ∷ rs) (all_cons h a) x n e =
-    cond_rule (λ o. o ≡ some n → 0 < n) (r.applies x) (λ _ f. let k : r.number ≡ n = cc in omega (arith, h)) (λ _. first_number rs a x n) e
+    cond_rule (λ o. o ≡ Some n → 0 < n) (r.applies x) (λ _ f. let k : r.number ≡ n = cc in omega (arith, h)) (λ _. first_number rs a x n) e
 
-refusal_number : (x : Inputs) (n : ℕ) → refusal x ≡ some n → 0 < n
+refusal_number : (x : Inputs) (n : ℕ) → refusal x ≡ Some n → 0 < n
 unfolding refusal table
 refusal_number x n e =
     first_number table
     (all_cons (omega arith) (all_cons (omega arith) (all_cons (omega arith) (all_cons (omega arith) (all_cons (omega arith) (all_cons (omega arith) (all_cons (omega arith) (all_cons (omega arith) (all_cons (omega arith) all_nil)))))))))
     x n e
 
-reply_number : (s : Slices) (o : Option ℕ) (x : Result) (n : ℕ) → ((k : ℕ) → o ≡ some k → 0 < k) → (reply s o x).answer ≡ refused n → 0 < n
+reply_number : (s : Slices) (o : Option ℕ) (x : Result) (n : ℕ) → ((k : ℕ) → o ≡ Some k → 0 < k) → (reply s o x).answer ≡ refused n → 0 < n
 unfolding reply
-reply_number s none x n h e = let z : ◌≡◌ {A = ℕ} 0 1 = cc in absurd (omega arith)
-reply_number s (some k) x n h e = let f : k ≡ n = cc in omega (arith, h k refl)
+reply_number s None x n h e = let z : ◌≡◌ {A = ℕ} 0 1 = cc in absurd (omega arith)
+reply_number s (Some k) x n h e = let f : k ≡ n = cc in omega (arith, h k refl)
 
 call_number : (p : Problem) (s : Slices) (c : Call) (n : ℕ) → (call p s c).answer ≡ refused n → 0 < n
 unfolding call public_minimise public_eliminate

@@ -1,12 +1,11 @@
 -- What is promised of a list of calls in code. Assumes nothing.
-use Rattle.std.specs.Prelude.{ℕ, ◌≡◌, true, false, List, [], ◌∷◌, length}
+use Rattle.std.specs.Prelude.{ℕ, ◌≡◌, true, false, List, [], ◌∷◌, length, Result, Ok, Err}
 use Rattle.recorded_call.specs.models.Problem.{Problem}
 use Rattle.recorded_call.specs.plan.Plan.{Slices}
 use Rattle.recorded_call.specs.planner.Calls.{Reply}
 use Rattle.recorded_call.specs.planner.Run.{Claim}
 use Rattle.recorded_call.specs.call_words.Words.{Buffers, plan_slices, calls_in, well_formed, recorded, answer_row, rows}
-use Rattle.call_lists.specs.declared.Ran.{Ran}
-use Rattle.call_lists.specs.declared.Ran.TheVariants.{Malformed, Done as RanAll}
+use Rattle.call_lists.specs.declared.Malformed.{Malformed}
 
 -- "each later one gets both whole as the last call left them": the slices after all calls
 unfoldable pub last_slices : Slices → List Reply → Slices
@@ -32,6 +31,6 @@ pub record AllRun (n : ℕ) (p : Problem) (calls tapes : List ℕ) (before after
   pub last : plan_slices after ≡ last_slices (plan_slices before) (replies_in n after)
 
 -- what `run_calls` promises by its answer
-abbrev pub Leaves : Ran → Problem → List ℕ → List ℕ → Buffers → Buffers → Type 0
-Leaves Malformed p calls tapes before after = Untouched calls tapes before after
-Leaves (RanAll n) p calls tapes before after = AllRun n p calls tapes before after
+abbrev pub Leaves : Result ℕ Malformed → Problem → List ℕ → List ℕ → Buffers → Buffers → Type 0
+Leaves (Ok n) p calls tapes before after = AllRun n p calls tapes before after
+Leaves (Err e) p calls tapes before after = Untouched calls tapes before after

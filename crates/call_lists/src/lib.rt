@@ -12,12 +12,9 @@ use recorded_call::{Vehicle, run_next, well_formed};
 // Of the crates below, passed on to those above.
 pub use recorded_call::{eliminate, minimise};
 
-// How a list ends: its words are malformed, or so many calls were run.
-#[derive(Clone, Copy)]
-pub enum Ran {
-    Malformed,
-    Done(usize),
-}
+// The words of a list are malformed.
+#[derive(Clone, Copy, Debug, PartialEq, Eq)]
+pub struct Malformed;
 
 // Every call in turn, each on both slices as the last one left them.
 fn run_all(
@@ -46,20 +43,19 @@ fn run_all(
         distances.now times.now vehicle)
         calls.now tapes.now (buffers lengths.old stops.old work.old cells.old answers.old history.old) (buffers lengths.new stops.new work.new cells.new answers.new history.new) }
 {
-    let mut from: usize = 0;
-    let mut ran: usize = 0;
-    while ran < count {
+    let mut from = 0;
+    for ran in 0..count {
         from = run_next(
             lengths, stops, work, cells, answers, history, calls, tapes, ran, from, n, demand,
             service, ready, due, penalty, flags, distances, times, vehicle,
         );
-        ran += 1;
     }
 }
 
 // The calls that `calls` and `tapes` ask for, in order, over one problem and the plan in both slices. A call has six words (`Words`) of `calls` and as
 // many words of `tapes` as it says; it is lent the first cells of `work` and `cells`. Its answer goes into four words of `answers`: the number of the
-// refusal or 0, routes, steps, draws; both slices after it go into `history`. All lengths must fit; where they do not, nothing is changed.
+// refusal or 0, routes, steps, draws; both slices after it go into `history`. All lengths must fit; where they do not, nothing is changed. The result is
+// how many calls were run.
 pub fn run_calls(
     lengths: &mut [u16],
     stops: &mut [u16],
@@ -79,18 +75,18 @@ pub fn run_calls(
     distances: &[f64],
     times: &[f64],
     vehicle: Vehicle,
-) -> Ran
+) -> Result<usize, Malformed>
     ensures { Leaves result (problem n demand.now service.now ready.now due.now penalty.now flags.now
         distances.now times.now vehicle)
         calls.now tapes.now (buffers lengths.old stops.old work.old cells.old answers.old history.old) (buffers lengths.new stops.new work.new cells.new answers.new history.new) }
 {
     if !well_formed(lengths, stops, work, cells, answers, history, calls, tapes) {
-        return Ran::Malformed;
+        return Err(Malformed);
     }
     let count = calls.len() / 6;
     run_all(
         lengths, stops, work, cells, answers, history, calls, tapes, count, n, demand, service,
         ready, due, penalty, flags, distances, times, vehicle,
     );
-    Ran::Done(count)
+    Ok(count)
 }

@@ -7,8 +7,7 @@ ghost use Rattle.planner.specs.Told.{work_of};
 ghost use Rattle.call_words.specs.Words.{buffers, words_first, words_of, kind_passes, call_passes, calls_pass, well_formed};
 
 // Of the crates below, passed on to those above.
-pub use planner::calls::Replied;
-pub use planner::{Vehicle, copy_part};
+pub use planner::{Reduction, Refusal, Vehicle, copy_part};
 
 // The six words of a call: its kind (0 minimise, 1 eliminate), M, K, how many words its tape has, and how many u16 and f64 work cells it is lent.
 #[derive(Clone, Copy)]
@@ -38,36 +37,19 @@ pub fn words_at(calls: &[u64], i: usize) -> Words
 }
 
 // Whether the kind is one of the two, and an eliminate has no M, K and tape.
+#[tactic(auto, unfolding(crate::specs::Words::kind_passes))]
 fn kind_passes(w: Words) -> bool
     ensures { result ≡ kind_passes w }
 {
-    let kind = w.kind;
-    if kind == 0 {
-        return true;
-    }
-    if kind != 1 {
-        return false;
-    }
-    if w.limit != 0 {
-        return false;
-    }
-    if w.clock != 0 {
-        return false;
-    }
-    w.tape == 0
+    w.kind == 0 || w.kind == 1 && w.limit == 0 && w.clock == 0 && w.tape == 0
 }
 
 // Whether the words are a call's, and it is lent no more work cells than there are.
+#[tactic(auto, unfolding(crate::specs::Words::call_passes))]
 fn call_passes(w: Words, small: usize, wide: usize) -> bool
     ensures { result ≡ call_passes (work_of small wide) w }
 {
-    if !kind_passes(w) {
-        return false;
-    }
-    if small < w.small {
-        return false;
-    }
-    w.wide <= wide
+    kind_passes(w) && w.small <= small && w.wide <= wide
 }
 
 // Whether each call passes, and their tapes have so many words together.
@@ -76,18 +58,15 @@ fn calls_pass(calls: &[u64], count: usize, tapes: usize, small: usize, wide: usi
     ensures { result ≡ calls_pass (work_of small wide) (words_of count calls.now) tapes }
 {
     let mut left = tapes;
-    let mut i: usize = 0;
-    while i < count {
+    for i in 0..count {
         let w = words_at(calls, i);
         if !call_passes(w, small, wide) {
             return false;
         }
-        let tape = w.tape;
-        if left < tape {
+        if left < w.tape {
             return false;
         }
-        left -= tape;
-        i += 1;
+        left -= w.tape;
     }
     left == 0
 }
@@ -99,13 +78,11 @@ fn is_product(whole: usize, count: usize, part: usize) -> bool
     if part == 0 {
         return whole == 0;
     }
-    if whole % part != 0 {
-        return false;
-    }
-    whole / part == count
+    whole % part == 0 && whole / part == count
 }
 
 // Whether the words are calls, and the numbers that they name fit what is lent.
+#[tactic(auto, unfolding(crate::specs::Words::well_formed))]
 pub fn well_formed(
     lengths: &[u16],
     stops: &[u16],
@@ -119,14 +96,8 @@ pub fn well_formed(
     ensures { result ≡ well_formed calls.now tapes.now (buffers lengths.now stops.now work.now cells.now answers.now history.now) }
 {
     let count = calls.len() / 6;
-    if calls.len() != count * 6 {
-        return false;
-    }
-    if answers.len() != count * 4 {
-        return false;
-    }
-    if !is_product(history.len(), count, lengths.len() + stops.len()) {
-        return false;
-    }
-    calls_pass(calls, count, tapes.len(), work.len(), cells.len())
+    calls.len() == count * 6
+        && answers.len() == count * 4
+        && is_product(history.len(), count, lengths.len() + stops.len())
+        && calls_pass(calls, count, tapes.len(), work.len(), cells.len())
 }

@@ -10,7 +10,7 @@ ghost use Rattle.call_words.specs.Words.{call_of};
 ghost use Rattle.called.specs.Lent.{Lent};
 
 use call_words::Words;
-use minimise_call::{Replied, Vehicle};
+use minimise_call::{Reduction, Refusal, Vehicle};
 
 // Of the crates below, passed on to those above.
 pub use eliminate_call::eliminate;
@@ -35,7 +35,7 @@ pub fn run_call(
     distances: &[f64],
     times: &[f64],
     vehicle: Vehicle,
-) -> Replied
+) -> Result<Reduction, Refusal>
     requires { Lent w from (length tapes.now) (length work.old) (length cells.old) }
     ensures { reply_of result lengths.new stops.new ≡ call (problem n demand.now service.now ready.now due.now penalty.now flags.now
         distances.now times.now vehicle)

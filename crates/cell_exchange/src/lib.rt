@@ -12,10 +12,7 @@ pub fn swap(stops: &mut [u16], i: usize, j: usize)
     requires { (i < length stops.old) × (j < length stops.old) }
     ensures { stops.new ≡ swap i j stops.old }
 {
-    let x = stops[i];
-    let y = stops[j];
-    stops[i] = y;
-    stops[j] = x;
+    stops.swap(i, j);
 }
 
 // The part from a to b is exchanged with the part from x to y, further right. The work cells are free.

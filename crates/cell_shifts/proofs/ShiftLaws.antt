@@ -2,42 +2,12 @@
 use Prim.Native.Nat.{ℕ, ◌+◌, ◌-◌, ◌≤◌, ◌<◌, zero-le}
 use mathlib.Core.Path.{◌≡◌, refl, sym, ◌∙◌}
 use mathlib.Core.List.{List, ◌∷◌, ◌++◌}
-use native.Mathlib.Numerals.{add-one}
 use native.Mathlib.Omega.{arith}
 use lib.ListN.{length, take, drop, get_or, set, length-set, length-drop}
 use lib.Seq.{take_all, get_or-drop}
 use Rattle.cells.specs.laws.Lists.{shift_in, shift_out_part, length_part}
 use Rattle.cells.specs.laws.Edits.{insert_at, cut}
-use Rattle.cells.specs.laws.Overwrite.{mix, mix_more, mix_get, mix_end}
-
--- ---- `shift_right`: the first i cells of t are those of c and t₀, and the next of them is carried
-
-pub record Shifting (t₀ : List ℕ) (c : ℕ) (t : List ℕ) (carry i : ℕ) : Type 0 where
-  pub within : i ≤ length t₀
-  pub size : length t ≡ length t₀
-  pub cells : t ≡ mix (c ∷ t₀) t₀ i
-  pub carried : carry ≡ get_or (c ∷ t₀) i 0
-
-module _ (t₀ : List ℕ) (c : ℕ) where
-  pub shifting_none : Shifting t₀ c t₀ c 0
-  shifting_none = record { within = zero-le; size = refl; cells = refl; carried = refl }
-
-  pub shifting_more : (t : List ℕ) (carry i : ℕ) → Shifting t₀ c t carry i → i < length t → Shifting t₀ c (set t i carry) (get_or t i 0) (i + 1)
-  shifting_more t carry i s h =
-      let k : i < length t₀ = omega (arith, s.size) in
-      record {
-        within = omega arith;
-        size = length-set t i carry ∙ s.size;
-        cells = rw (s.cells, s.carried) (mix_more (c ∷ t₀) t₀ i 0 (omega arith) k);
-        carried = rw (s.cells, add-one) (mix_get (c ∷ t₀) t₀ i i 0 (omega arith) (omega arith) (omega arith));
-      }
-
-  pub shifting_all : (t : List ℕ) (carry i : ℕ) → Shifting t₀ c t carry i → length t ≤ i → t ≡ take (length t₀) (c ∷ t₀)
-  shifting_all t carry i s h =
-      let e : i ≡ length t₀ = omega (arith, s.size, s.within) in
-      s.cells ∙ rw e (mix_end (c ∷ t₀) t₀ (length t₀) (omega arith))
-
-pub ruleset shifting_laws = (shifting_none, shifting_more, shifting_all)
+use Rattle.cells.specs.laws.Overwrite.{mix, mix_more, mix_get}
 
 -- ---- `shift_left`: the first i cells of t are those of t₀ from n on
 
@@ -66,8 +36,6 @@ module _ (t₀ : List ℕ) (n : ℕ) where
   closing_all t i s h =
       let e : i ≡ length t₀ - n = omega (arith, s.within) in
       s.cells ∙ rw (e, take_all (length t₀ - n) (drop n t₀) (rw length-drop (omega arith)))
-
-pub ruleset closing_laws = (closing_none, closing_more, closing_all)
 
 -- ---- a lent part, shifted and put back
 

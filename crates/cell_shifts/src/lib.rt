@@ -11,13 +11,9 @@ pub use cells::{clear, copy_part};
 pub fn shift_right(tail: &mut [u16], c: u16)
     ensures { tail.new ≡ take (length tail.old) (c ∷ tail.old) }
 {
-    let mut carry = c;
-    let mut i = 0;
-    while i < tail.len() {
-        let x = tail[i];
-        tail[i] = carry;
-        carry = x;
-        i += 1;
+    if tail.len() > 0 {
+        tail.rotate_right(1);
+        tail[0] = c;
     }
 }
 
@@ -26,11 +22,8 @@ pub fn shift_left(tail: &mut [u16], n: usize)
     requires { n ≤ length tail.old }
     ensures { tail.new ≡ drop n tail.old ++ drop (length tail.old - n) tail.old }
 {
-    let end = tail.len() - n;
-    let mut i = 0;
-    while i < end {
+    for i in 0..tail.len() - n {
         tail[i] = tail[i + n];
-        i += 1;
     }
 }
 

@@ -2,15 +2,17 @@
 use Prim.Native.Nat.{ℕ}
 use mathlib.Core.Path.{◌≡◌, sym, ap, ◌∙◌}
 use mathlib.Core.List.{List}
+use Rattle.std.specs.Prelude.{Result}
 use mathlib.Core.Bool.{Bool, true, false, ◌&&◌}
 use Rattle.minimise_call.specs.laws.Picks.{pick_eq, pick_ne}
 use Rattle.minimise_call.specs.models.Problem.{Problem}
 use Rattle.minimise_call.specs.plan.Plan.{Slices}
 use Rattle.minimise_call.specs.ejection_pool.Pool.{Allowance}
 use Rattle.minimise_call.specs.entry.Table.{Work}
-use Rattle.minimise_call.specs.planner.declared.calls.Replied.{Replied}
+use Rattle.minimise_call.specs.planner.local_search.declared.rounds.Reduction.{Reduction}
+use Rattle.minimise_call.specs.entry.refusal.declared.Refusal.{Refusal}
 use Rattle.minimise_call.specs.planner.Calls.{Reply, public_minimise, public_eliminate}
-use Rattle.minimise_call.specs.planner.Told.{replied_told, reply_of, slices_of}
+use Rattle.minimise_call.specs.planner.Told.{told, reply_of, slices_of}
 use Rattle.same_answers.specs.stored_answers.declared.Stored.{Stored}
 use Rattle.same_answers.specs.stored_answers.Answers.{reply_stored, same_stored, same_plan}
 use Rattle.change_verdict.specs.Changed.{change, replayed, replayed_as}
@@ -24,9 +26,9 @@ module _ (kind : ℕ) (p : Problem) (s : Slices) (given : Allowance) (w : Work) 
   unfolding change
   asks_eliminate e h = pick_ne kind 0 _ _ y e h
 
-module _ (a : Replied) (lengths stops : List ℕ) (y : Reply) (e : reply_of a lengths stops ≡ y) (told answer : Stored) (t : told ≡ reply_stored (replied_told a))
-    (v : Bool) (m : v ≡ same_stored told answer) (lengths-after stops-after : List ℕ) where
-  told_same : v ≡ same_stored (reply_stored (replied_told a)) answer
+module _ (a : Result Reduction Refusal) (lengths stops : List ℕ) (y : Reply) (e : reply_of a lengths stops ≡ y) (asked answer : Stored) (t : asked ≡ reply_stored (told a))
+    (v : Bool) (m : v ≡ same_stored asked answer) (lengths-after stops-after : List ℕ) where
+  told_same : v ≡ same_stored (reply_stored (told a)) answer
   told_same = m ∙ ap (λ (x : Stored). same_stored x answer) t
 
   compared : (u : Bool) → u ≡ (v && same_plan (slices_of lengths stops) lengths-after stops-after)

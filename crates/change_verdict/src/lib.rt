@@ -8,7 +8,7 @@ ghost use Rattle.minimise_call.specs.planner.Told.{reply_of, slices_of, work_of}
 ghost use Rattle.change_verdict.specs.Changed.{change, replayed, replayed_as};
 
 use eliminate_call::eliminate;
-use minimise_call::{Replied, Vehicle, minimise};
+use minimise_call::{Reduction, Refusal, Vehicle, minimise};
 use same_answers::{Stored, of_replied, same_plan, same_stored};
 
 // What a call answers: minimise, or eliminate for any other kind.
@@ -31,7 +31,7 @@ fn changed(
     distances: &[f64],
     times: &[f64],
     vehicle: Vehicle,
-) -> Replied
+) -> Result<Reduction, Refusal>
     ensures { reply_of result lengths.new stops.new ≡ change kind (problem n demand.now service.now ready.now due.now penalty.now flags.now
         distances.now times.now vehicle)
         (slices_of lengths.old stops.old) (allowance limit clock tape.now) (work_of (length work.old) (length cells.old)) }

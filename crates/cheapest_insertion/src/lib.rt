@@ -7,13 +7,12 @@ ghost use Rattle.route_insertion.specs.models.RouteLimits.{limits_of};
 ghost use Rattle.route_insertion.specs.models.Problem.{problem, Stops, Admitted};
 ghost use Rattle.route_insertion.specs.evaluation.Check.{route_checks_needed};
 ghost use Rattle.route_insertion.specs.plan.Plan.{Lent, split};
-ghost use Rattle.route_insertion.specs.route_cost.Route.{chosen};
 ghost use Rattle.route_insertion.specs.insertion.Cheapest.{try_route, cheapest};
 
-use route_insertion::{RouteCostBest as Best, try_route};
+use route_insertion::{Insertion, try_route};
 
 // Of the crates below, passed on to those above.
-pub use route_insertion::{Counts, RouteCostBest, Vehicle, put_in};
+pub use route_insertion::{Counts, Vehicle, put_in};
 
 // Route k, which stands from `at` to `end` among the stops.
 fn try_part(
@@ -23,7 +22,7 @@ fn try_part(
     end: usize,
     c: usize,
     k: usize,
-    best: Best,
+    best: Option<Insertion>,
     needed: bool,
     vehicle: Vehicle,
     demand: &[i32],
@@ -35,12 +34,12 @@ fn try_part(
     due: &[f64],
     penalty: &[f64],
     flags: &[u8],
-) -> Best
+) -> Option<Insertion>
     requires admitted { Admitted (problem n demand.now service.now ready.now due.now penalty.now flags.now distances.now times.now vehicle) }
     requires c_lt_n { (c < n) × (at ≤ end) × (end ≤ length stops.now) × Stops n (take (end - at) (drop at stops.now)) × (512 ≤ length cells.old)
         × (needed ≡ route_checks_needed flags.now (limits_of vehicle)) }
-    ensures { chosen result ≡ try_route (problem n demand.now service.now ready.now due.now penalty.now flags.now
-        distances.now times.now vehicle) c k (take (end - at) (drop at stops.now)) (chosen best) }
+    ensures { result ≡ try_route (problem n demand.now service.now ready.now due.now penalty.now flags.now
+        distances.now times.now vehicle) c k (take (end - at) (drop at stops.now)) best }
 {
     try_route(
         cells,
@@ -80,24 +79,22 @@ pub fn cheapest(
     due: &[f64],
     penalty: &[f64],
     flags: &[u8],
-) -> Best
+) -> Option<Insertion>
     requires admitted { Admitted (problem n demand.now service.now ready.now due.now penalty.now flags.now distances.now times.now vehicle) }
     requires lent { Lent lengths.now stops.now × All (Stops n) (split lengths.now stops.now) × (c < n) × (512 ≤ length cells.old)
         × (needed ≡ route_checks_needed flags.now (limits_of vehicle)) }
-    ensures { chosen result ≡ cheapest (problem n demand.now service.now ready.now due.now penalty.now flags.now
+    ensures { result ≡ cheapest (problem n demand.now service.now ready.now due.now penalty.now flags.now
         distances.now times.now vehicle) (split lengths.now stops.now) c }
 {
-    let mut best = Best::Nothing;
+    let mut best = None;
     let mut at = 0;
-    let mut k = 0;
-    while k < lengths.len() {
-        let end = at + lengths[k] as usize;
+    for (k, length) in lengths.iter().enumerate() {
+        let end = at + *length as usize;
         best = try_part(
             cells, stops, at, end, c, k, best, needed, vehicle, demand, n, distances, times,
             service, ready, due, penalty, flags,
         );
         at = end;
-        k += 1;
     }
     best
 }

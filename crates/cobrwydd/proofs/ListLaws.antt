@@ -3,11 +3,11 @@ use Prim.Native.Nat.{ℕ}
 use mathlib.Core.Path.{◌≡◌, refl}
 use mathlib.Core.List.{List}
 use mathlib.Core.Bool.{Bool, true, false, cond}
+use Rattle.std.specs.Prelude.{Result, Ok, Err}
 use native.Mathlib.Omega.{arith}
 use lib.Dec.{leb}
 use Rattle.worth_questions.specs.models.Problem.{Problem}
-use Rattle.c_reports.specs.call_lists.declared.Ran.{Ran}
-use Rattle.c_reports.specs.call_lists.declared.Ran.TheVariants.{Malformed, Done as RanAll}
+use Rattle.c_reports.specs.call_lists.declared.Malformed.{Malformed}
 use Rattle.c_reports.specs.call_words.Words.{Buffers, well_formed}
 use Rattle.c_reports.specs.call_lists.Lists.{Untouched, AllRun, Leaves}
 use Rattle.c_answers.specs.c_fits.Misfit.{misfit}
@@ -43,6 +43,6 @@ module _ (given : ℕ) (calls tapes : List ℕ) (before : Buffers) (m : ℕ) (e 
       all_run : (n : ℕ) → AllRun n p calls tapes before after → RanList 0 given p calls tapes before after
       all_run n a = record { number = formed_code h true a.formed; ran = λ _. rw (← a.count) a; kept = λ z. absurd (z refl) }
 
-      pub list_told : (r : Ran) (code : ℕ) → code ≡ ran_code r → Leaves r p calls tapes before after → RanList code given p calls tapes before after
-      list_told Malformed code f l = rw f (malformed l)
-      list_told (RanAll n) code f l = rw f (all_run n l)
+      pub list_told : (r : Result ℕ Malformed) (code : ℕ) → code ≡ ran_code r → Leaves r p calls tapes before after → RanList code given p calls tapes before after
+      list_told (Ok n) code f l = rw f (all_run n l)
+      list_told (Err e) code f l = rw f (malformed l)

@@ -3,13 +3,12 @@ use Prim.Native.Nat.{ℕ, ◌≤◌}
 use mathlib.Core.Path.{◌≡◌, ap}
 use mathlib.Core.List.{List, [], ◌∷◌}
 use mathlib.Core.Bool.{Bool, true, false, cond}
+use Rattle.std.specs.Prelude.{Option, Some}
 use native.Mathlib.Omega.{arith}
 use borrow.Author.Tests.{eq-eqb, le-ltb}
 use lib.Dec.{eqb}
 use lib.ListN.{length}
 use lib.Seq.{sets}
-use Rattle.c_reports.specs.sheet_planner.declared.Printed.{Printed}
-use Rattle.c_reports.specs.sheet_planner.declared.Printed.TheVariants.{Bytes}
 use Rattle.c_reports.specs.sheet_planner.Output.{Output, output, into}
 use Rattle.c_answers.specs.c_fits.Misfit.{misfit}
 use Rattle.c_answers.specs.CValuesAnswerLaws.{floats_fit, numbers_fit}
@@ -34,9 +33,9 @@ module _ (out written text : List ℕ) (m : ℕ) (e : m ≡ misfit (length out) 
     six_thousand : length out ≡ 6000
     six_thousand = floats_fit (length out) 6000 (length written) 1 0 m e h
 
-    module _ (after : List ℕ) (r : Printed) (w : output r after ≡ into out text) where
+    module _ (after : List ℕ) (r : Option ℕ) (w : output r after ≡ into out text) where
       -- there is room
-      is_in : output r after ≡ output (Bytes (length text)) (sets out 0 text)
+      is_in : output r after ≡ output (Some (length text)) (sets out 0 text)
       unfolding into
       is_in =
           let room : 6000 ≤ length out = omega (arith, six_thousand) in
@@ -45,6 +44,6 @@ module _ (out written text : List ℕ) (m : ℕ) (e : m ≡ misfit (length out) 
       pub text_there : (code : ℕ) (number : List ℕ) → code ≡ printed_code r → number ≡ bytes_written r written → prints code after number ≡ sheet_call out written text
       unfolding sheet_call
       text_there code number f g =
-          let a : r ≡ Bytes (length text) = ap (λ (o : Output). o.answer) is_in in
+          let a : r ≡ Some (length text) = ap (λ (o : Output). o.answer) is_in in
           let b : after ≡ sets out 0 text = ap (λ (o : Output). o.bytes) is_in in
           rw (f, g, a, b, eq-eqb (length out) 6000 six_thousand, eq-eqb (length written) 1 one_number)

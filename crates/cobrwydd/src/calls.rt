@@ -48,9 +48,8 @@ pub extern "C" fn cobrwydd_minimise(
     ensures work { FreeIfDone result work.old work.new }
     ensures cells { FreeIfDone result cells.old cells.new }
 {
-    let fault = reply_misfit(counts.len(), given);
-    if fault != 0 {
-        return fault;
+    if let Err(fault) = reply_misfit(counts.len(), given) {
+        return fault.code();
     }
     let vehicle = vehicle_of(
         capacity,
@@ -104,9 +103,8 @@ pub extern "C" fn cobrwydd_eliminate(
         (slices_of lengths.old stops.old) (work_of (length work.old) (length cells.now))) }
     ensures work { FreeIfDone result work.old work.new }
 {
-    let fault = reply_misfit(counts.len(), given);
-    if fault != 0 {
-        return fault;
+    if let Err(fault) = reply_misfit(counts.len(), given) {
+        return fault.code();
     }
     let vehicle = vehicle_of(
         capacity,

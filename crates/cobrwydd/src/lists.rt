@@ -46,9 +46,8 @@ pub extern "C" fn cobrwydd_run_calls(
         distances.now times.now (vehicle_of capacity depot fixed_cost cost_per_distance given max_distance max_duration earliest latest duration))
         calls.now tapes.now (buffers lengths.old stops.old work.old cells.old answers.old history.old) (buffers lengths.new stops.new work.new cells.new answers.new history.new) }
 {
-    let fault = list_misfit(given);
-    if fault != 0 {
-        return fault;
+    if let Err(fault) = list_misfit(given) {
+        return fault.code();
     }
     let vehicle = vehicle_of(
         capacity,

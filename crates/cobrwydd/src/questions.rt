@@ -42,9 +42,8 @@ pub extern "C" fn cobrwydd_route_feasible(
     ensures { says result [] found.new ≡ question checked_values 0 1 given (values [] found.old) (public_route_feasible (problem n demand.now service.now ready.now due.now penalty.now flags.now
         distances.now times.now (vehicle_of capacity depot fixed_cost cost_per_distance given max_distance max_duration earliest latest duration)) route.now) }
 {
-    let fault = checked_misfit(found.len(), given);
-    if fault != 0 {
-        return fault;
+    if let Err(fault) = checked_misfit(found.len(), given) {
+        return fault.code();
     }
     let vehicle = vehicle_of(
         capacity,
@@ -93,9 +92,8 @@ pub extern "C" fn cobrwydd_route_eval(
     ensures { says result out.new found.new ≡ question eval_values 5 3 given (values out.old found.old) (public_route_eval (problem n demand.now service.now ready.now due.now penalty.now flags.now
         distances.now times.now (vehicle_of capacity depot fixed_cost cost_per_distance given max_distance max_duration earliest latest duration)) route.now) }
 {
-    let fault = evaluated_misfit(out.len(), found.len(), given);
-    if fault != 0 {
-        return fault;
+    if let Err(fault) = evaluated_misfit(out.len(), found.len(), given) {
+        return fault.code();
     }
     let vehicle = vehicle_of(
         capacity,
@@ -143,9 +141,8 @@ pub extern "C" fn cobrwydd_effective_cost(
     ensures { says result out.new [] ≡ question number_values 1 0 given (values out.old []) (public_effective_cost (problem n demand.now service.now ready.now due.now penalty.now flags.now
         distances.now times.now (vehicle_of capacity depot fixed_cost cost_per_distance given max_distance max_duration earliest latest duration)) route.now) }
 {
-    let fault = number_misfit(out.len(), given);
-    if fault != 0 {
-        return fault;
+    if let Err(fault) = number_misfit(out.len(), given) {
+        return fault.code();
     }
     let vehicle = vehicle_of(
         capacity,
@@ -197,9 +194,8 @@ pub extern "C" fn cobrwydd_schedule(
     ensures { says result out.new found.new ≡ question eval_values 5 3 given (values out.old found.old) (public_schedule (problem n demand.now service.now ready.now due.now penalty.now flags.now
         distances.now times.now (vehicle_of capacity depot fixed_cost cost_per_distance given max_distance max_duration earliest latest duration)) (vehicle_break_new break_earliest break_latest break_duration) route.now) }
 {
-    let fault = evaluated_misfit(out.len(), found.len(), given);
-    if fault != 0 {
-        return fault;
+    if let Err(fault) = evaluated_misfit(out.len(), found.len(), given) {
+        return fault.code();
     }
     let vehicle = vehicle_of(
         capacity,
@@ -248,9 +244,8 @@ pub extern "C" fn cobrwydd_route_distance(
     ensures { says result out.new [] ≡ question number_values 1 0 given (values out.old []) (public_route_distance (problem n demand.now service.now ready.now due.now penalty.now flags.now
         distances.now times.now (vehicle_of capacity depot fixed_cost cost_per_distance given max_distance max_duration earliest latest duration)) route.now) }
 {
-    let fault = number_misfit(out.len(), given);
-    if fault != 0 {
-        return fault;
+    if let Err(fault) = number_misfit(out.len(), given) {
+        return fault.code();
     }
     let vehicle = vehicle_of(
         capacity,
@@ -297,9 +292,8 @@ pub extern "C" fn cobrwydd_lateness_bound(
     ensures { says result out.new [] ≡ question number_values 1 0 given (values out.old []) (public_lateness_bound (problem n demand.now service.now ready.now due.now penalty.now flags.now
         distances.now times.now (vehicle_of capacity depot fixed_cost cost_per_distance given max_distance max_duration earliest latest duration))) }
 {
-    let fault = number_misfit(out.len(), given);
-    if fault != 0 {
-        return fault;
+    if let Err(fault) = number_misfit(out.len(), given) {
+        return fault.code();
     }
     let vehicle = vehicle_of(
         capacity,
@@ -346,9 +340,8 @@ pub extern "C" fn cobrwydd_gain_floor(
     ensures { says result out.new [] ≡ question number_values 1 0 given (values out.old []) (public_gain_floor (problem n demand.now service.now ready.now due.now penalty.now flags.now
         distances.now times.now (vehicle_of capacity depot fixed_cost cost_per_distance given max_distance max_duration earliest latest duration))) }
 {
-    let fault = number_misfit(out.len(), given);
-    if fault != 0 {
-        return fault;
+    if let Err(fault) = number_misfit(out.len(), given) {
+        return fault.code();
     }
     let vehicle = vehicle_of(
         capacity,
@@ -378,9 +371,8 @@ pub extern "C" fn cobrwydd_time_window_new(
 ) -> u8
     ensures { says result out.new found.new ≡ question window_values 2 1 0 (values out.old found.old) (answered (public_time_window_new ready due)) }
 {
-    let fault = window_misfit(out.len(), found.len());
-    if fault != 0 {
-        return fault;
+    if let Err(fault) = window_misfit(out.len(), found.len()) {
+        return fault.code();
     }
     let window = problem_questions::time_window_new(ready, due);
     put_window(out, found, window)

@@ -11,9 +11,8 @@ use c_reports::{plan_sheet, put_printed};
 pub extern "C" fn cobrwydd_plan_sheet(out: &mut [u8], written: &mut [u64], text: &[u8]) -> u8
     ensures { prints result out.new written.new ≡ sheet_call out.old written.old (printed text.now) }
 {
-    let fault = sheet_misfit(out.len(), written.len());
-    if fault != 0 {
-        return fault;
+    if let Err(fault) = sheet_misfit(out.len(), written.len()) {
+        return fault.code();
     }
     let p = plan_sheet(out, text);
     put_printed(written, p)

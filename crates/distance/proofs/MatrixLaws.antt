@@ -1,24 +1,18 @@
 -- The cells of a matrix, and the loop that finds the largest number of a list. Assumes nothing.
-use Prim.Native.Nat.{ℕ, ◌+◌, ◌*◌, ◌≤◌, ◌<◌}
+use Prim.Native.Nat.{ℕ, ◌+◌, ◌≤◌, ◌<◌}
 use native.Mathlib.Omega.{arith}
-use mathlib.Core.Path.{◌≡◌, refl, sym, ap, ◌∙◌}
+use mathlib.Core.Path.{◌≡◌, refl, sym}
 use mathlib.Core.Bool.{Bool, true, false, cond}
 use mathlib.Core.List.{List}
-use mathlib.Core.Logic.{◌⊎◌, ⊎_elim}
-use lib.ListN.{length, get_or, drop}
+use lib.ListN.{length, get_or}
 use lib.Ieee.{Float, nan, lt, le, is_nan, of_bits}
 use lib.Ieee.Bits.{is_false}
-use borrow.Author.Rules.{rules}
 use Rattle.place_record.specs.floats.Binary64.{0f, max}
 use Rattle.place_record.specs.floats.Order.{passed, le_right, lt_false_of_le, lt_of_le_false}
 use Rattle.place_record.specs.floats.Functions.{max_first, max_second, max_not_nan_left}
-use Rattle.place_record.specs.laws.Loops.{foldl, fold_more, fold_end}
+use Rattle.place_record.specs.laws.Loops.{fold_more, fold_end}
 use Rattle.distance.specs.Matrix.{largest}
 use Rattle.distance.specs.Seen.{Seen}
-
--- times that are not none are n by n
-pub times_there : (l n : ℕ) → (l ≡ 0) ⊎ (l ≡ n * n) → (l ≡ 0 → ⊥) → l ≡ n * n
-times_there l n s h = ⊎_elim (λ e. absurd (h e)) (λ e. e) s
 
 -- ---- the larger of a number and the next, by one comparison
 
@@ -63,5 +57,3 @@ module _ (xs : List Float) where
   pub seen_all : (most : Float) (i : ℕ) → Seen xs most i → length xs ≤ i → most ≡ largest xs
   unfolding largest
   seen_all most i s h = fold_end max nan xs 0f most i s.same h
-
-pub ruleset seen_laws = (seen_none, seen_more, seen_smaller, seen_all)

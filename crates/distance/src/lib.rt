@@ -6,12 +6,12 @@ ghost use Rattle.std.specs.Float.Ieee.{is_nan};
 ghost use Rattle.place_record.specs.floats.Binary64.{max};
 ghost use Rattle.place_record.specs.models.Problem.{matrix, Square};
 ghost use Rattle.distance.specs.Matrix.{cell, travel_time, largest};
-ghost use Rattle.distance.specs.Seen.{Seen};
+ghost use Rattle.distance.specs.Seen.{Seen, NextSeen};
 
 // Of the crates below, passed on to those above.
 pub use place_record::{
-    Customer, Penalty, Rest, RouteLimits, Vehicle, VehicleBreak, Window, abs, customer_at,
-    infinity, is_finite, max, min, penalty_at, total_less, window_at,
+    Customer, RouteLimits, TimeWindow, Vehicle, VehicleBreak, abs, customer_at, infinity,
+    is_finite, max, min, penalty_at, total_less, window_at,
 };
 
 // The cell from one place to another. Every place on a checked problem lies in the matrix, so no cell is ever out of it.
@@ -36,6 +36,7 @@ pub fn travel_time(distances: &[f64], times: &[f64], n: usize, from: usize, to: 
 }
 
 // The larger of a number and the next: `float_functions::max` where the first is no NaN, by one comparison.
+#[tactic(auto, using(crate::proofs::MatrixLaws::larger_laws))]
 fn larger(most: f64, x: f64) -> f64
     requires { is_nan most ≡ false }
     ensures { result ≡ max most x }
@@ -43,19 +44,17 @@ fn larger(most: f64, x: f64) -> f64
     if x >= most { x } else { most }
 }
 
-// Where the next number stands that is as large as `most`, the largest so far; the length where there is none. No test waits for the one before.
-fn next_as_large(xs: &[f64], most: f64, start: usize) -> usize
+// Where the next number stands that is as large as `most`, the largest so far, if there is one. No test waits for the one before.
+fn next_as_large(xs: &[f64], most: f64, start: usize) -> Option<usize>
     requires { Seen xs.now most start }
-    ensures { (start ≤ result) × Seen xs.now most result }
+    ensures { NextSeen xs.now most start result }
 {
-    let mut i = start;
-    while i < xs.len() {
+    for i in start..xs.len() {
         if xs[i] >= most {
-            return i;
+            return Some(i);
         }
-        i += 1;
     }
-    i
+    None
 }
 
 // The largest of some numbers, 0 where none is above it.
@@ -64,11 +63,7 @@ pub fn largest(xs: &[f64]) -> f64
 {
     let mut most = 0.0;
     let mut i = 0;
-    while i < xs.len() {
-        let at = next_as_large(xs, most, i);
-        if at == xs.len() {
-            return most;
-        }
+    while let Some(at) = next_as_large(xs, most, i) {
         most = larger(most, xs[at]);
         i = at + 1;
     }

@@ -6,6 +6,7 @@ use native.Mathlib.Omega.{arith}
 use mathlib.Core.Path.{◌≡◌, refl}
 use mathlib.Core.Bool.{Bool, true, false, not}
 use mathlib.Core.List.{List, [], ◌∷◌, ◌++◌, append_assoc}
+use Rattle.std.proofs.Common.{Option, Some}
 use lib.ListN.{length, get_or, take, drop, length-append, length-take, length-drop}
 use lib.Seq.{paste, take_at, take_all, length-take-le}
 use lib.Dec.{ltb}
@@ -17,24 +18,19 @@ use borrow.Author.Tests.{eq-eqb, ne_eqb}
 use Rattle.insertion.specs.laws.Lists.{paste_on}
 use Rattle.insertion.specs.models.Problem.{Stops}
 use Rattle.ejection.specs.declared.Ejection.{Ejection}
-use Rattle.ejection.specs.declared.Best.{Best}
-use Rattle.ejection.specs.declared.Best.TheVariants.{Nothing, At}
-use Rattle.ejection.specs.Eject.{kept, failures_at, failure_sum, chosen, fails_more, outranks}
+use Rattle.ejection.specs.Eject.{kept, failures_at, failure_sum, fails_more, outranks}
 use Rattle.ejection.specs.Asked.{Counted, kept_length}
 
 -- ---- ranks
 
-module _ (n : ℕ) (best : Best) (e : Ejection) (b : best ≡ At e) where
-  pub more_than : ltb e.failed n ≡ fails_more n (chosen best)
-  more_than = rw b
-
-  pub rank_cost : (x : Float) → n ≡ e.failed → not (le e.cost x) ≡ outranks n x (chosen best)
+module _ (n : ℕ) (best : Option Ejection) (e : Ejection) (b : best ≡ Some e) where
+  pub rank_cost : (x : Float) → n ≡ e.failed → not (le e.cost x) ≡ outranks n x best
   rank_cost x h = rw (b, eq-eqb n e.failed h)
 
-  pub rank_failed : (x : Float) → (n ≡ e.failed → ⊥) → ltb n e.failed ≡ outranks n x (chosen best)
+  pub rank_failed : (x : Float) → (n ≡ e.failed → ⊥) → ltb n e.failed ≡ outranks n x best
   rank_failed x h = rw (b, ne_eqb n e.failed h)
 
-pub ruleset rank_laws = (rules, more_than, rank_cost, rank_failed)
+pub ruleset rank_laws = (rules, rank_cost, rank_failed)
 
 -- ---- failures
 

@@ -1,7 +1,7 @@
 -- The ejection (route_minimization.rs, `Pool::eject`): the best so far is a route, the places of it whose stops leave, and the position that the
 -- popped stop takes in the kept part. Assumes nothing.
 use Rattle.std.specs.Prelude.{ℕ, suc, ◌+◌, ◌-◌, List, [], ◌∷◌, ◌++◌, Bool, true, false, cond, not, length, get_or, take, drop, set, eqb, ltb, Float}
-use Rattle.std.proofs.Math.Option.{Option, none, some}
+use Rattle.std.specs.Prelude.{Option, None, Some}
 use Rattle.std.specs.Float.Ieee.{le}
 use Rattle.insertion.specs.laws.Edits.{insert_at}
 use Rattle.insertion.specs.laws.Loops.{loop}
@@ -13,8 +13,6 @@ use Rattle.insertion.specs.route_load.Feasible.{has_room}
 use Rattle.insertion.specs.quick_test.Quick.{Times, times}
 use Rattle.insertion.specs.Cheapest.{may_go_in}
 use Rattle.ejection.specs.declared.Ejection.{Ejection}
-use Rattle.ejection.specs.declared.Best.{Best}
-use Rattle.ejection.specs.declared.Best.TheVariants.{Nothing, At}
 
 -- ---- who leaves: the stops at i and j of a route, i ≤ j; one stop where they are the same
 
@@ -36,20 +34,17 @@ failure_sum failures r i j = cond (eqb i j) (failures_at failures r i) (failures
 
 -- ---- the best so far
 
--- the best so far, as the code keeps it; the key of an `Ejection` is (failed, cost)
-abbrev pub chosen : Best → Option Ejection
-chosen Nothing = none
-chosen (At e) = some e
+-- the key of an `Ejection` is (failed, cost)
 
 -- `penalty > b.key.0`
 abbrev pub fails_more : ℕ → Option Ejection → Bool
-fails_more n none = false
-fails_more n (some best) = ltb best.failed n
+fails_more n None = false
+fails_more n (Some best) = ltb best.failed n
 
 -- "least (failure sum, insertion cost), first found among equals": not `key >= b.key`
 abbrev pub outranks : ℕ → Float → Option Ejection → Bool
-outranks n x none = true
-outranks n x (some best) = cond (eqb n best.failed) (not (le best.cost x)) (ltb n best.failed)
+outranks n x None = true
+outranks n x (Some best) = cond (eqb n best.failed) (not (le best.cost x)) (ltb n best.failed)
 
 -- ---- the search
 
@@ -58,13 +53,13 @@ unfoldable pub try_in_kept : Problem → ℕ → ℕ → ℕ → ℕ → ℕ →
 try_in_kept p c n k i j left t pos best =
     let x = insertion_cost p.roads (depot p) left pos c in
     cond (outranks n x best)
-    (cond (may_go_in p left t pos c) (some (record { failed = n; cost = x; route = k; first = i; second = j; pos = pos })) best)
+    (cond (may_go_in p left t pos c) (Some (record { failed = n; cost = x; route = k; first = i; second = j; pos = pos })) best)
     best
 
 -- the loop over positions, unless the departures of the kept part miss a window
 unfoldable pub try_kept : Problem → ℕ → ℕ → ℕ → ℕ → ℕ → List ℕ → Option Times → Option Ejection → Option Ejection
-try_kept p c n k i j left none best = best
-try_kept p c n k i j left (some t) best = loop (suc (length left)) (try_in_kept p c n k i j left t) best
+try_kept p c n k i j left None best = best
+try_kept p c n k i j left (Some t) best = loop (suc (length left)) (try_in_kept p c n k i j left t) best
 
 -- "the load test", and then the positions
 unfoldable pub try_left : Problem → ℕ → ℕ → ℕ → ℕ → ℕ → List ℕ → Option Ejection → Option Ejection
@@ -89,10 +84,10 @@ try_two p c failures k r best = loop (length r) (try_two_from p c failures k r) 
 
 -- over all routes
 unfoldable pub eject_one : Problem → Plan → ℕ → List ℕ → Option Ejection
-eject_one p routes c failures = loop (length routes) (λ k. try_one p c failures k (route k routes)) none
+eject_one p routes c failures = loop (length routes) (λ k. try_one p c failures k (route k routes)) None
 
 unfoldable pub eject_two : Problem → Plan → ℕ → List ℕ → Option Ejection
-eject_two p routes c failures = loop (length routes) (λ k. try_two p c failures k (route k routes)) none
+eject_two p routes c failures = loop (length routes) (λ k. try_two p c failures k (route k routes)) None
 
 -- Pool::eject: "one stop, or only if no single one works two"
 unfoldable pub eject : Problem → Plan → ℕ → List ℕ → Option Ejection

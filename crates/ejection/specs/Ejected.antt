@@ -2,7 +2,7 @@
 use Prim.Native.Nat.{ℕ, zero, suc, ◌+◌, ◌-◌, ◌≤◌, ◌<◌}
 use Rattle.std.specs.Prelude.{◌≡◌, refl, Bool, true, false, cond, List, [], ◌∷◌, ◌++◌, length, get_or, take, drop, eqb}
 use Rattle.std.proofs.Common.{ap, ◌∙◌, le_refl, eqb-true, drop-cons, drop-drop, take-take, length-take-le}
-use Rattle.std.proofs.Math.Option.{Option, none, some}
+use Rattle.std.specs.Prelude.{Option, None, Some}
 use native.Mathlib.Omega.{arith}
 use Rattle.std.proofs.lemmas.Bool.{eqb-false}
 use Rattle.std.proofs.lemmas.List.{take-append-le, drop-append-le}
@@ -99,8 +99,8 @@ module _ (p : Problem) (routes : Plan) (c : ℕ) (failures : List ℕ) where
     kept_found : (n i j : ℕ) → i ≤ j → j < length (route k routes) → (o : Option Times) (best : Option Ejection) → Out best
         → Out (try_kept p c n k i j (kept i j (route k routes)) o best)
     unfolding try_kept try_in_kept
-    kept_found n i j h g none best b = b
-    kept_found n i j h g (some t) best b =
+    kept_found n i j h g None best b = b
+    kept_found n i j h g (Some t) best b =
         let left = kept i j (route k routes) in
         loop_rule (λ _. Out) (suc (length left)) (try_in_kept p c n k i j left t) (λ pos best pos-in b.
         cond_rule Out (outranks n (insertion_cost p.roads (depot p) left pos c) best)

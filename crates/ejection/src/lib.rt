@@ -3,7 +3,7 @@
 
 ghost use Rattle.std.specs.Prelude.{◌≡◌, suc, ◌-◌, ◌≤◌, ◌<◌, length, get_or, take};
 ghost use Rattle.insertion.specs.models.Problem.{Stops};
-ghost use Rattle.ejection.specs.Eject.{kept, failures_at, failure_sum, chosen, fails_more, outranks};
+ghost use Rattle.ejection.specs.Eject.{kept, failures_at, failure_sum, fails_more, outranks};
 ghost use Rattle.ejection.specs.Asked.{Counted};
 
 // Of the crates below, passed on to those above.
@@ -25,34 +25,25 @@ pub struct Ejection {
     pub pos: usize,
 }
 
-// The best ejection so far, if there is one.
-#[derive(Clone, Copy)]
-pub enum Best {
-    Nothing,
-    At(Ejection),
-}
-
 // Whether the sum of failures alone rules an ejection out.
-pub fn fails_more(failed: u32, best: Best) -> bool
-    ensures { result ≡ fails_more failed (chosen best) }
+pub fn fails_more(failed: u32, best: Option<Ejection>) -> bool
+    ensures { result ≡ fails_more failed best }
 {
-    match best {
-        Best::Nothing => false,
-        Best::At(e) => e.failed < failed,
-    }
+    best.is_some_and(|e| e.failed < failed)
 }
 
 // Whether an ejection ranks before the best so far: by failures, then by cost, the first of equals.
-pub fn outranks(failed: u32, cost: f64, best: Best) -> bool
-    ensures { result ≡ outranks failed cost (chosen best) }
+pub fn outranks(failed: u32, cost: f64, best: Option<Ejection>) -> bool
+    ensures { result ≡ outranks failed cost best }
 {
     match best {
-        Best::Nothing => true,
-        Best::At(e) => {
+        None => true,
+        Some(e) => {
             if failed == e.failed {
-                return !(cost >= e.cost);
+                !(cost >= e.cost)
+            } else {
+                failed < e.failed
             }
-            failed < e.failed
         }
     }
 }
@@ -62,10 +53,7 @@ fn between(i: usize, j: usize) -> usize
     requires { i ≤ j }
     ensures { result ≡ j - suc i }
 {
-    if i < j {
-        return j - i - 1;
-    }
-    0
+    if i < j { j - i - 1 } else { 0 }
 }
 
 // The failures of the stop at i.

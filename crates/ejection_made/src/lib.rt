@@ -8,8 +8,8 @@ ghost use Rattle.ejection_made.specs.Made.{stack, Made};
 
 // Of the crates below, passed on to those above.
 pub use ejection::{
-    Best as EjectionBest, Counts, Ejection, LocalSearchNext, Pick, Reduction, constrained,
-    copy_part, next_pick, offset, rounds,
+    Counts, Ejection, LocalSearchNext, Pick, Reduction, constrained, copy_part, next_pick, offset,
+    rounds,
 };
 
 // The stop at i leaves route k, and c goes in at pos of what is left. Returns the stop that left.

@@ -5,7 +5,7 @@ use Rattle.std.specs.Prelude.{◌≡◌, get_or, leb}
 use Rattle.std.proofs.Math.Path.{refl, ap}
 use Rattle.std.proofs.Common.{◌∙◌, le_refl, arith, le-leb}
 use mathlib.Core.List.{List, [], ◌∷◌, ◌++◌, reverse}
-use Rattle.std.proofs.Math.Option.{Option, none, some}
+use Rattle.std.specs.Prelude.{Option, None, Some}
 use Rattle.std.proofs.lemmas.Bool.{lt-leb}
 use Rattle.std.proofs.Math.ListN.{set}
 use Rattle.ejection_made.specs.laws.Loops.{cond_rule}
@@ -28,9 +28,9 @@ Then I O (more s) = I s
 module _ (given : Allowance) (p : Problem) where
   -- the pool is empty; the attempt fails, with a step counted or without; the popped stop is inserted; it goes in for others
   pub turn_rule : (Q : Turn → Type 0) (s : State) (pool : List ℕ)
-      → (pool ≡ [] → Q (stop (record { plan = some s.routes; counts = s.counts })))
+      → (pool ≡ [] → Q (stop (record { plan = Some s.routes; counts = s.counts })))
       → ((n : Counts) → s.counts.steps ≤ n.steps → n.steps ≤ s.counts.steps + 1 → n.draws ≡ s.counts.draws → Q (stop (failed n)))
-      → ((c : ℕ) (rest : List ℕ) (x : Insertion) → pool ≡ c ∷ rest → cheapest p s.routes c ≡ some x
+      → ((c : ℕ) (rest : List ℕ) (x : Insertion) → pool ≡ c ∷ rest → cheapest p s.routes c ≡ Some x
       → Q (more (record {
         routes = put_in x.route x.pos c s.routes;
         pool = rest;
@@ -38,7 +38,7 @@ module _ (given : Allowance) (p : Problem) where
         counts = counted s.counts s.counts.draws;
       })))
       → ((c : ℕ) (rest failures : List ℕ) (e : Ejection) → pool ≡ c ∷ rest → failures ≡ set s.failures c (get_or s.failures c 0 + 1)
-      → eject p s.routes c failures ≡ some e
+      → eject p s.routes c failures ≡ Some e
       → let d = perturb p given.tape (record { routes = make_room s.routes c e; draws = s.counts.draws }) in
       Q (more (record {
         routes = d.routes;
@@ -58,12 +58,12 @@ module _ (given : Allowance) (p : Problem) where
       failures = set s.failures c (get_or s.failures c 0 + 1)
 
       ejecting : (o : Option Ejection) → eject p s.routes c failures ≡ o → Q (after_eject given.tape p s.routes s.counts c rest failures o)
-      ejecting none e = fail (counted s.counts s.counts.draws) (omega arith) (le_refl (s.counts.steps + 1)) refl
-      ejecting (some x) e = out c rest failures x refl refl e
+      ejecting None e = fail (counted s.counts s.counts.draws) (omega arith) (le_refl (s.counts.steps + 1)) refl
+      ejecting (Some x) e = out c rest failures x refl refl e
 
       placing : (o : Option Insertion) → cheapest p s.routes c ≡ o → Q (after_cheapest given.tape p s c rest o)
-      placing none e = ejecting (eject p s.routes c failures) refl
-      placing (some x) e = insert c rest x refl e
+      placing None e = ejecting (eject p s.routes c failures) refl
+      placing (Some x) e = insert c rest x refl e
 
   -- I left holds of the state where that many steps are left to the limit; O of the attempt's answer
   pub pool_rule : (I : ℕ → State → Type 0) (O : Tried → Type 0)
@@ -93,9 +93,9 @@ module _ (given : Allowance) (p : Problem) (left : ℕ) (s : State) where
 
 module _ (given : Allowance) (p : Problem) (s : State) where
   -- the pool is empty, whatever steps are left
-  pub emptied : (left : ℕ) → s.pool ≡ [] → run_pool given p left s ≡ record { plan = some s.routes; counts = s.counts }
+  pub emptied : (left : ℕ) → s.pool ≡ [] → run_pool given p left s ≡ record { plan = Some s.routes; counts = s.counts }
   emptied zero e = (unfold run_pool at_limit in ap (at_limit s) e)
-  emptied (suc left) e = pool_stop given p left s (record { plan = some s.routes; counts = s.counts }) (unfold turn in ap (turn given p s) e)
+  emptied (suc left) e = pool_stop given p left s (record { plan = Some s.routes; counts = s.counts }) (unfold turn in ap (turn given p s) e)
 
   module _ (c : ℕ) (rest : List ℕ) (e : s.pool ≡ c ∷ rest) where
     pub at_the_limit : run_pool given p zero s ≡ failed s.counts

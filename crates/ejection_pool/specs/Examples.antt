@@ -1,10 +1,8 @@
 -- The pool computed on small plans: what a slip in it would change. Assumes nothing.
-use Rattle.std.specs.Prelude.{ℕ, ◌≡◌, refl, List, [], ◌∷◌, replicate, pos, Float}
-use Rattle.std.proofs.Math.Option.{some}
+use Rattle.std.specs.Prelude.{ℕ, ◌≡◌, refl, List, [], ◌∷◌, replicate, pos, Float, None}
+use Rattle.std.specs.Prelude.{Some}
 use Rattle.std.specs.Float.{binary64}
 use Rattle.std.specs.Float.Ieee.{of_int}
-use Rattle.ejection_made.specs.models.declared.vehicle.Limit.TheVariants.{None as NoLimit}
-use Rattle.ejection_made.specs.models.declared.vehicle.Rest.TheVariants.{None as NoRest}
 use Rattle.ejection_made.specs.models.declared.vehicle.Vehicle.{Vehicle}
 use Rattle.ejection_made.specs.models.Problem.{Problem, problem}
 use Rattle.ejection_made.specs.plan.Plan.{Plan}
@@ -22,9 +20,9 @@ van =
       depot_id = 0;
       fixed_cost = num 0;
       cost_per_distance = num 1;
-      max_distance = NoLimit;
-      max_duration = NoLimit;
-      rest = NoRest;
+      max_distance = None;
+      max_duration = None;
+      rest = None;
     }
 
 -- M, K and a tape
@@ -51,6 +49,6 @@ later_on_top = refl
 
 -- An attempt after others: failures are 1 for every place again, so the stops of both routes fail alike and the first route's leaves. 500 words.
 fresh_failures : empty_into (with 5 50 (1 ∷ [])) (loads 4 6 9) two_routes (3 ∷ []) (counted 3 0)
-    ≡ record { plan = some ((3 ∷ []) ∷ (1 ∷ 2 ∷ []) ∷ []); counts = counted 5 500 }
+    ≡ record { plan = Some ((3 ∷ []) ∷ (1 ∷ 2 ∷ []) ∷ []); counts = counted 5 500 }
 unfolding opened loads two_routes
 fresh_failures = refl

@@ -1,6 +1,6 @@
 -- The ejection pool: the attempt to empty a route into the others (route_minimization.rs, `Pool::empty_into`). Assumes nothing.
 use Rattle.std.specs.Prelude.{ℕ, zero, suc, ◌+◌, List, [], ◌∷◌, ◌++◌, reverse, cond, get_or, set, replicate, leb}
-use Rattle.std.proofs.Math.Option.{Option, none, some}
+use Rattle.std.specs.Prelude.{Option, None, Some}
 use Rattle.ejection_made.specs.models.Problem.{Problem}
 use Rattle.ejection_made.specs.plan.Plan.{Plan, put_in}
 use Rattle.ejection_made.specs.route_cost.declared.Insertion.{Insertion}
@@ -30,7 +30,7 @@ pub data Turn : Type 0 where
   more : State → Turn
 
 abbrev pub failed : Counts → Tried
-failed n = record { plan = none; counts = n }
+failed n = record { plan = None; counts = n }
 
 -- "otherwise one step counts"
 abbrev pub counted : Counts → ℕ → Counts
@@ -38,28 +38,28 @@ counted n draws = record { steps = n.steps + 1; draws = draws }
 
 -- "None: the attempt fails. The ejected go onto the pool in route order. Then `perturb`"
 unfoldable pub after_eject : List ℕ → Problem → Plan → Counts → ℕ → List ℕ → List ℕ → Option Ejection → Turn
-after_eject tape p routes n c rest failures none = stop (failed (counted n n.draws))
-after_eject tape p routes n c rest failures (some e) =
+after_eject tape p routes n c rest failures None = stop (failed (counted n n.draws))
+after_eject tape p routes n c rest failures (Some e) =
     let d = perturb p tape (record { routes = make_room routes c e; draws = n.draws }) in
     more (record { routes = d.routes; pool = reverse (gone routes e) ++ rest; failures = failures; counts = counted n d.draws })
 
 -- the popped stop c inserted; "Otherwise failures of the popped stop rise by 1 and one stop, or .. two, leave a route"
 unfoldable pub after_cheapest : List ℕ → Problem → State → ℕ → List ℕ → Option Insertion → Turn
-after_cheapest tape p s c rest (some best) =
+after_cheapest tape p s c rest (Some best) =
     more (record {
       routes = put_in best.route best.pos c s.routes;
       pool = rest;
       failures = s.failures;
       counts = counted s.counts s.counts.draws;
     })
-after_cheapest tape p s c rest none =
+after_cheapest tape p s c rest None =
     let failures = set s.failures c (get_or s.failures c 0 + 1) in
     after_eject tape p s.routes s.counts c rest failures (eject p s.routes c failures)
 
 -- A turn of the loop of `empty_into` below the step limit. "The clock answers no to the first K askings of a call (K: u64), yes from then on.":
 -- each asking that is answered by no counts a step, and no step counts without one, so the clock says stop exactly if K steps are counted.
 unfoldable pub turn : Allowance → Problem → State → List ℕ → Turn
-turn given p s [] = stop (record { plan = some s.routes; counts = s.counts })
+turn given p s [] = stop (record { plan = Some s.routes; counts = s.counts })
 turn given p s (c ∷ rest) =
     cond (leb given.clock s.counts.steps) (stop (failed s.counts)) (after_cheapest given.tape p s c rest (cheapest p s.routes c))
 
@@ -69,7 +69,7 @@ turned on (more s) = on s
 
 -- "if M steps are done .. the attempt fails (the clock is not asked after M)"; a pool that is empty by then has succeeded
 unfoldable pub at_limit : State → List ℕ → Tried
-at_limit s [] = record { plan = some s.routes; counts = s.counts }
+at_limit s [] = record { plan = Some s.routes; counts = s.counts }
 at_limit s (c ∷ rest) = failed s.counts
 
 -- the loop of `empty_into` with `left` steps to the limit

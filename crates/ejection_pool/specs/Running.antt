@@ -1,6 +1,6 @@
 -- The pool's state as the code holds it, what the loop asks for, and what a place for a stop changes. Assumes nothing.
 use Rattle.std.specs.Prelude.{ℕ, ◌+◌, ◌≤◌, ◌<◌, ◌^◌, ◌≡◌, Bool, true, false, List, length, Float}
-use Rattle.std.proofs.Math.Option.{Option, none, some}
+use Rattle.std.specs.Prelude.{Option, None, Some}
 use Rattle.ejection_made.specs.models.RouteLimits.{limits_of}
 use Rattle.ejection_made.specs.models.Problem.{Problem, Admitted}
 use Rattle.ejection_made.specs.evaluation.Check.{route_checks_needed}
@@ -53,12 +53,12 @@ pub record Forcing (p : Problem) (tape : List ℕ) (needed : Bool) (lengths stop
 
 -- the cheapest place, where there is one
 abbrev pub is_there : Option Insertion → Bool
-is_there none = false
-is_there (some x) = true
+is_there None = false
+is_there (Some x) = true
 
 abbrev pub put_best : ℕ → Option Insertion → Plan → Plan
-put_best c none routes = routes
-put_best c (some x) routes = put_in x.route x.pos c routes
+put_best c None routes = routes
+put_best c (Some x) routes = put_in x.route x.pos c routes
 
 abbrev pub one_more : Bool → ℕ
 one_more true = 1

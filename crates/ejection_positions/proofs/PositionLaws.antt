@@ -3,7 +3,7 @@ use Prim.Native.Nat.{ℕ, suc}
 use mathlib.Core.Path.{◌≡◌, refl, sym, ◌∙◌}
 use mathlib.Core.Bool.{Bool, true, false, not}
 use mathlib.Core.List.{List, []}
-use mathlib.Core.Option.{Option, some}
+use Rattle.std.proofs.Common.{Option, Some}
 use lib.ListN.{length}
 use lib.IntN.{ℤ}
 use lib.Ieee.{Float}
@@ -35,7 +35,7 @@ module _ (p : Problem) (c n k i j : ℕ) (left : List ℕ) (t : Times) (pos : �
     unfolding pass_in_kept
     position_refused f = rw (← ex, ← ev, h, ← ew, f)
 
-    pub position_taken : w ≡ true → some (record { failed = n; cost = x; route = k; first = i; second = j; pos = pos }) ≡ pass_in_kept p c n k i j left t pos best
+    pub position_taken : w ≡ true → Some (record { failed = n; cost = x; route = k; first = i; second = j; pos = pos }) ≡ pass_in_kept p c n k i j left t pos best
     unfolding pass_in_kept
     position_taken f = rw (← ex, ← ev, h, ← ew, f)
 

@@ -3,7 +3,7 @@
 use Rattle.std.specs.Prelude.{ℕ, suc, ◌≡◌, Bool, true, false, cond, List, length}
 use Rattle.std.proofs.Math.Path.{refl}
 use Rattle.std.proofs.Math.Bool.{not}
-use Rattle.std.proofs.Math.Option.{Option, none, some}
+use Rattle.std.specs.Prelude.{Option, None, Some}
 use borrow.Author.Tests.{not-true}
 use Rattle.ejection.specs.laws.Loops.{loop_rule}
 use Rattle.ejection.specs.laws.Searches.{every, every_at}
@@ -20,7 +20,7 @@ unfoldable pub pass_in_kept : Problem → ℕ → ℕ → ℕ → ℕ → ℕ �
 pass_in_kept p c n k i j left t pos best =
     let x = insertion_cost p.roads (depot p) left pos c in
     cond (outranks n x best)
-    (cond (may_pass p left t pos c) (some (record { failed = n; cost = x; route = k; first = i; second = j; pos = pos })) best)
+    (cond (may_pass p left t pos c) (Some (record { failed = n; cost = x; route = k; first = i; second = j; pos = pos })) best)
     best
 
 module _ (p : Problem) (c n k i j : ℕ) (left : List ℕ) (t : Times) (pos : ℕ) (best : Option Ejection) where
@@ -45,8 +45,8 @@ module _ (p : Problem) (c n k i j : ℕ) (left : List ℕ) (best : Option Ejecti
   -- Then the best so far stays, whatever the tests say: each turn of the loop leaves it.
   pub none_outranks_stays : none_outranks p.roads (depot p) c n left best ≡ true → (o : Option Times) → try_kept p c n k i j left o best ≡ best
   unfolding none_outranks try_kept
-  none_outranks_stays e none = refl
-  none_outranks_stays e (some t) =
+  none_outranks_stays e None = refl
+  none_outranks_stays e (Some t) =
       loop_rule (λ (pos : ℕ) (b : Option Ejection). b ≡ best) (suc (length left)) (try_in_kept p c n k i j left t)
       (λ pos b h same. beaten_stays t pos b same (every_at (λ q. not (outranks n (insertion_cost p.roads (depot p) left q c) best)) (suc (length left)) pos e h))
       refl

@@ -8,15 +8,14 @@ ghost use Rattle.ejection.specs.models.RouteLimits.{limits_of};
 ghost use Rattle.ejection.specs.models.Problem.{matrix, problem, Fit, Stops, Admitted};
 ghost use Rattle.ejection.specs.evaluation.Check.{route_checks_needed};
 ghost use Rattle.ejection.specs.route_times.Prepared.{held};
-ghost use Rattle.ejection.specs.Eject.{chosen, try_left};
+ghost use Rattle.ejection.specs.Eject.{try_left};
 ghost use Rattle.ejection_positions.specs.Pass.{none_outranks, pass_in_kept};
 
-use ejection::{Best, Ejection, has_room, insertion_cost, may_pass, outranks, prepare};
+use ejection::{has_room, insertion_cost, may_pass, outranks, prepare};
 
 // Of the crates below, passed on to those above.
 pub use ejection::{
-    Best as EjectionBest, Vehicle, checked, fails_more, failure_sum, feasible, keep,
-    within_capacity,
+    Ejection, Vehicle, checked, fails_more, failure_sum, feasible, keep, within_capacity,
 };
 
 // Who leaves: the sum of their failures, the route and their two places in it, the same one twice where one stop leaves.
@@ -35,7 +34,7 @@ fn try_in_kept(
     out: Out,
     pos: usize,
     c: usize,
-    best: Best,
+    best: Option<Ejection>,
     needed: bool,
     vehicle: Vehicle,
     n: usize,
@@ -46,32 +45,32 @@ fn try_in_kept(
     due: &[f64],
     penalty: &[f64],
     flags: &[u8],
-) -> Best
+) -> Option<Ejection>
     requires fit { Fit (customers service.now ready.now due.now penalty.now flags.now) (matrix n distances.now times.now) }
     requires depot_id_bound { (vehicle.depot_id < n) × (c < n) × (pos ≤ length left.now) × Stops n left.now × (512 ≤ length cells.now)
         × (needed ≡ route_checks_needed flags.now (limits_of vehicle)) }
-    ensures { chosen result ≡ pass_in_kept (problem n [] service.now ready.now due.now penalty.now flags.now
+    ensures { result ≡ pass_in_kept (problem n [] service.now ready.now due.now penalty.now flags.now
         distances.now times.now vehicle) c out.failed out.route out.first out.second left.now
-        (held (length left.now) cells.now) pos (chosen best) }
+        (held (length left.now) cells.now) pos best }
 {
     let cost = insertion_cost(left, pos, c, vehicle.depot_id, n, distances);
-    if outranks(out.failed, cost, best) {
-        if may_pass(
+    if outranks(out.failed, cost, best)
+        && may_pass(
             left, cells, pos, c, needed, vehicle, n, distances, times, service, ready, due,
             penalty, flags,
-        ) {
-            return Best::At(Ejection {
-                failed: out.failed,
-                cost: cost,
-                route: out.route,
-                first: out.first,
-                second: out.second,
-                pos: pos,
-            });
-        }
-        return best;
+        )
+    {
+        Some(Ejection {
+            failed: out.failed,
+            cost: cost,
+            route: out.route,
+            first: out.first,
+            second: out.second,
+            pos: pos,
+        })
+    } else {
+        best
     }
-    best
 }
 
 // Every position of what is kept, which has room for c, its end too.
@@ -80,7 +79,7 @@ fn try_positions(
     cells: &[f64],
     out: Out,
     c: usize,
-    best: Best,
+    best: Option<Ejection>,
     needed: bool,
     vehicle: Vehicle,
     n: usize,
@@ -91,22 +90,20 @@ fn try_positions(
     due: &[f64],
     penalty: &[f64],
     flags: &[u8],
-) -> Best
+) -> Option<Ejection>
     requires fit { Fit (customers service.now ready.now due.now penalty.now flags.now) (matrix n distances.now times.now) }
     requires depot_id_bound { (vehicle.depot_id < n) × (c < n) × Stops n left.now × (512 ≤ length cells.now)
         × (needed ≡ route_checks_needed flags.now (limits_of vehicle)) }
-    ensures { chosen result ≡ loop (suc (length left.now)) (pass_in_kept (problem n [] service.now ready.now due.now penalty.now flags.now
+    ensures { result ≡ loop (suc (length left.now)) (pass_in_kept (problem n [] service.now ready.now due.now penalty.now flags.now
         distances.now times.now vehicle) c out.failed out.route out.first out.second left.now
-        (held (length left.now) cells.now)) (chosen best) }
+        (held (length left.now) cells.now)) best }
 {
     let mut found = best;
-    let mut pos = 0;
-    while pos <= left.len() {
+    for pos in 0..left.len() + 1 {
         found = try_in_kept(
             left, cells, out, pos, c, found, needed, vehicle, n, distances, times, service, ready,
             due, penalty, flags,
         );
-        pos += 1;
     }
     found
 }
@@ -116,22 +113,20 @@ fn none_outranks(
     kept: &[u16],
     failed: u32,
     c: usize,
-    best: Best,
+    best: Option<Ejection>,
     depot: usize,
     n: usize,
     distances: &[f64],
 ) -> bool
     requires n_bound { (n ≤ 256) × (length distances.now ≡ n * n) }
     requires depot_lt_n { (depot < n) × (c < n) × Stops n kept.now }
-    ensures { result ≡ none_outranks (matrix n distances.now []) depot c failed kept.now (chosen best) }
+    ensures { result ≡ none_outranks (matrix n distances.now []) depot c failed kept.now best }
 {
-    let mut pos = 0;
-    while pos <= kept.len() {
+    for pos in 0..kept.len() + 1 {
         let cost = insertion_cost(kept, pos, c, depot, n, distances);
         if outranks(failed, cost, best) {
             return false;
         }
-        pos += 1;
     }
     true
 }
@@ -142,7 +137,7 @@ pub fn try_left(
     left: &[u16],
     out: Out,
     c: usize,
-    best: Best,
+    best: Option<Ejection>,
     needed: bool,
     vehicle: Vehicle,
     demand: &[i32],
@@ -154,25 +149,25 @@ pub fn try_left(
     due: &[f64],
     penalty: &[f64],
     flags: &[u8],
-) -> Best
+) -> Option<Ejection>
     requires admitted { Admitted (problem n demand.now service.now ready.now due.now penalty.now flags.now distances.now times.now vehicle) }
     requires c_lt_n { (c < n) × Stops n left.now × (512 ≤ length cells.old) × (needed ≡ route_checks_needed flags.now (limits_of vehicle)) }
-    ensures { chosen result ≡ try_left (problem n demand.now service.now ready.now due.now penalty.now flags.now
-        distances.now times.now vehicle) c out.failed out.route out.first out.second left.now (chosen best) }
+    ensures { result ≡ try_left (problem n demand.now service.now ready.now due.now penalty.now flags.now
+        distances.now times.now vehicle) c out.failed out.route out.first out.second left.now best }
 {
-    if has_room(left, c, demand, vehicle) {
-        if none_outranks(left, out.failed, c, best, vehicle.depot_id, n, distances) {
-            return best;
-        }
-        if prepare(
-            cells, left, needed, vehicle, n, distances, times, service, ready, due, penalty, flags,
-        ) {
-            return try_positions(
-                left, cells, out, c, best, needed, vehicle, n, distances, times, service, ready,
-                due, penalty, flags,
-            );
-        }
+    if !has_room(left, c, demand, vehicle)
+        || none_outranks(left, out.failed, c, best, vehicle.depot_id, n, distances)
+    {
         return best;
     }
-    best
+    if prepare(
+        cells, left, needed, vehicle, n, distances, times, service, ready, due, penalty, flags,
+    ) {
+        try_positions(
+            left, cells, out, c, best, needed, vehicle, n, distances, times, service, ready, due,
+            penalty, flags,
+        )
+    } else {
+        best
+    }
 }

@@ -4,7 +4,7 @@ use native.Mathlib.Omega.{arith}
 use mathlib.Core.Path.{◌≡◌, refl, ◌∙◌}
 use mathlib.Core.Bool.{Bool, true, false}
 use mathlib.Core.List.{List}
-use mathlib.Core.Option.{Option, none}
+use Rattle.std.proofs.Common.{Option, None, Some}
 use lib.ListN.{length, get_or, take, drop, length-take, length-drop}
 use lib.Ieee.{Float}
 use Rattle.route_ejection.specs.laws.All.{All}
@@ -17,9 +17,7 @@ use Rattle.route_ejection.specs.plan.Plan.{Plan, Lent, split, route}
 use Rattle.route_ejection.specs.plan.Slices.{length_split}
 use Rattle.route_ejection.specs.RouteCostVisitLaws.{Visiting, visit_start, part_is, part_stops, visit_more}
 use Rattle.route_ejection.specs.ejection.declared.Ejection.{Ejection}
-use Rattle.route_ejection.specs.ejection.declared.Best.{Best}
-use Rattle.route_ejection.specs.ejection.declared.Best.TheVariants.{Nothing, At}
-use Rattle.route_ejection.specs.ejection.Eject.{chosen, try_one, try_two, eject_one, eject_two, eject}
+use Rattle.route_ejection.specs.ejection.Eject.{try_one, try_two, eject_one, eject_two, eject}
 use Rattle.route_ejection.specs.ejection.Asked.{Counted, Sought}
 use Rattle.ejection_search.specs.Some.{try_some, eject_some}
 
@@ -38,7 +36,7 @@ part_short s a m n h = simp (length-take, length-drop) (omega arith)
 -- ---- the loop over routes
 
 pub record Over (two : Bool) (p : Problem) (failures lengths stops : List ℕ) (c : ℕ) (needed : Bool)
-    (work₀ work : List ℕ) (cells₀ cells : List Float) (found : Best) (at k : ℕ) : Type 0 where
+    (work₀ work : List ℕ) (cells₀ cells : List Float) (found : Option Ejection) (at k : ℕ) : Type 0 where
   pub admitted : Admitted p
   pub counted : Counted p.roads.size failures
   pub place : c < p.roads.size
@@ -48,7 +46,7 @@ pub record Over (two : Bool) (p : Problem) (failures lengths stops : List ℕ) (
   pub cells_room : 512 ≤ length cells
   pub work_same : length work ≡ length work₀
   pub cells_same : length cells ≡ length cells₀
-  pub same : chosen found ≡ loop k (λ k. try_some two p c failures k (route k (split lengths stops))) none
+  pub same : found ≡ loop k (λ k. try_some two p c failures k (route k (split lengths stops))) None
 
 module _ (two : Bool) (p : Problem) (failures lengths stops : List ℕ) (c : ℕ) (needed : Bool) (work₀ : List ℕ) (cells₀ : List Float) where
   abbrev pub over_turn : ℕ → Option Ejection → Option Ejection
@@ -56,7 +54,7 @@ module _ (two : Bool) (p : Problem) (failures lengths stops : List ℕ) (c : ℕ
 
   pub over_start : Admitted p → Lent lengths stops → All (Stops p.roads.size) (split lengths stops) → Counted p.roads.size failures → c < p.roads.size
       → length stops ≤ length work₀ → 512 ≤ length cells₀ → needed ≡ route_checks_needed p.places.flags (limits_of p.vehicle)
-      → Over two p failures lengths stops c needed work₀ work₀ cells₀ cells₀ Nothing 0 0
+      → Over two p failures lengths stops c needed work₀ work₀ cells₀ cells₀ None 0 0
   over_start a l s f h w x e =
       record {
         admitted = a;
@@ -68,17 +66,17 @@ module _ (two : Bool) (p : Problem) (failures lengths stops : List ℕ) (c : ℕ
         cells_room = x;
         work_same = refl;
         cells_same = refl;
-        same = loop_none over_turn none;
+        same = loop_none over_turn None;
       }
 
-  module _ (work : List ℕ) (cells : List Float) (found : Best) (at k : ℕ) (g : Over two p failures lengths stops c needed work₀ work cells₀ cells found at k) where
+  module _ (work : List ℕ) (cells : List Float) (found : Option Ejection) (at k : ℕ) (g : Over two p failures lengths stops c needed work₀ work cells₀ cells found at k) where
     -- what `try_part` asks for
     pub over_sought : k < length lengths → Sought p failures (take (at + get_or lengths k 0 - at) (drop at stops)) c needed
     over_sought h =
         record { admitted = g.admitted; counted = g.counted; stops = part_stops p.roads.size lengths stops at k g.visit h; place = g.place; check = g.check }
 
-    pub over_more : (w : List ℕ) (x : List Float) (next : Best) → k < length lengths → length w ≡ length work → length x ≡ length cells
-        → chosen next ≡ try_some two p c failures k (take (at + get_or lengths k 0 - at) (drop at stops)) (chosen found)
+    pub over_more : (w : List ℕ) (x : List Float) (next : Option Ejection) → k < length lengths → length w ≡ length work → length x ≡ length cells
+        → next ≡ try_some two p c failures k (take (at + get_or lengths k 0 - at) (drop at stops)) found
         → Over two p failures lengths stops c needed work₀ w cells₀ x next (at + get_or lengths k 0) (k + 1)
     over_more w x next h ew ex e =
         record {
@@ -91,20 +89,20 @@ module _ (two : Bool) (p : Problem) (failures lengths stops : List ℕ) (c : ℕ
           cells_room = omega (arith, g.cells_room);
           work_same = ew ∙ g.work_same;
           cells_same = ex ∙ g.cells_same;
-          same = loop_more over_turn none k (chosen found) (chosen next) g.same (rw (part_is p.roads.size lengths stops at k g.visit h) at e);
+          same = loop_more over_turn None k found next g.same (rw (part_is p.roads.size lengths stops at k g.visit h) at e);
         }
 
-    pub over_end : length lengths ≤ k → chosen found ≡ eject_some two p (split lengths stops) c failures
+    pub over_end : length lengths ≤ k → found ≡ eject_some two p (split lengths stops) c failures
     unfolding eject_some
-    over_end h = loop_end over_turn none k (length (split lengths stops)) (chosen found) g.same (omega (arith, length_split lengths stops, g.visit.within))
+    over_end h = loop_end over_turn None k (length (split lengths stops)) found g.same (omega (arith, length_split lengths stops, g.visit.within))
 
 -- ---- one, or only then two
 
-module _ (p : Problem) (routes : Plan) (c : ℕ) (failures : List ℕ) (one : Best) (e : chosen one ≡ eject_some false p routes c failures) where
-  pub eject_first : (x : Ejection) → one ≡ At x → chosen one ≡ eject p routes c failures
+module _ (p : Problem) (routes : Plan) (c : ℕ) (failures : List ℕ) (one : Option Ejection) (e : one ≡ eject_some false p routes c failures) where
+  pub eject_first : (x : Ejection) → one ≡ Some x → one ≡ eject p routes c failures
   unfolding eject eject_some eject_one or_else
   eject_first x h = rw (← e, h)
 
-  pub eject_second : (two : Best) → one ≡ Nothing → chosen two ≡ eject_some true p routes c failures → chosen two ≡ eject p routes c failures
+  pub eject_second : (two : Option Ejection) → one ≡ None → two ≡ eject_some true p routes c failures → two ≡ eject p routes c failures
   unfolding eject eject_some eject_one eject_two or_else
   eject_second two h g = rw (← e, h) g

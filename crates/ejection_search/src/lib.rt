@@ -8,11 +8,11 @@ ghost use Rattle.route_ejection.specs.models.RouteLimits.{limits_of};
 ghost use Rattle.route_ejection.specs.models.Problem.{problem, Stops, Admitted};
 ghost use Rattle.route_ejection.specs.evaluation.Check.{route_checks_needed};
 ghost use Rattle.route_ejection.specs.plan.Plan.{Lent, split};
-ghost use Rattle.route_ejection.specs.ejection.Eject.{chosen, eject};
+ghost use Rattle.route_ejection.specs.ejection.Eject.{eject};
 ghost use Rattle.route_ejection.specs.ejection.Asked.{Counted, Sought};
 ghost use Rattle.ejection_search.specs.Some.{try_some, eject_some};
 
-use route_ejection::{EjectionBest as Best, try_one, try_two};
+use route_ejection::{Ejection, try_one, try_two};
 
 // Of the crates below, passed on to those above.
 pub use route_ejection::{Vehicle, checked, feasible, within_capacity};
@@ -26,7 +26,7 @@ fn try_some(
     k: usize,
     two: bool,
     c: usize,
-    best: Best,
+    best: Option<Ejection>,
     needed: bool,
     vehicle: Vehicle,
     demand: &[i32],
@@ -38,22 +38,23 @@ fn try_some(
     due: &[f64],
     penalty: &[f64],
     flags: &[u8],
-) -> Best
+) -> Option<Ejection>
     requires sought { Sought (problem n demand.now service.now ready.now due.now penalty.now flags.now distances.now times.now vehicle) failures.now route.now c needed }
     requires route_in_bounds { (length route.now ≤ length work.old) × (512 ≤ length cells.old) }
-    ensures { chosen result ≡ try_some two (problem n demand.now service.now ready.now due.now penalty.now flags.now
-        distances.now times.now vehicle) c failures.now k route.now (chosen best) }
+    ensures { result ≡ try_some two (problem n demand.now service.now ready.now due.now penalty.now flags.now
+        distances.now times.now vehicle) c failures.now k route.now best }
 {
     if two {
-        return try_two(
+        try_two(
             work, cells, failures, route, k, c, best, needed, vehicle, demand, n, distances, times,
             service, ready, due, penalty, flags,
-        );
+        )
+    } else {
+        try_one(
+            work, cells, failures, route, k, c, best, needed, vehicle, demand, n, distances, times,
+            service, ready, due, penalty, flags,
+        )
     }
-    try_one(
-        work, cells, failures, route, k, c, best, needed, vehicle, demand, n, distances, times,
-        service, ready, due, penalty, flags,
-    )
 }
 
 // One stop or two leave route k, which stands from `at` to `end` among the stops.
@@ -67,7 +68,7 @@ fn try_part(
     k: usize,
     two: bool,
     c: usize,
-    best: Best,
+    best: Option<Ejection>,
     needed: bool,
     vehicle: Vehicle,
     demand: &[i32],
@@ -79,12 +80,12 @@ fn try_part(
     due: &[f64],
     penalty: &[f64],
     flags: &[u8],
-) -> Best
+) -> Option<Ejection>
     requires at_le_end { (at ≤ end) × (end ≤ length stops.now) }
     requires sought { Sought (problem n demand.now service.now ready.now due.now penalty.now flags.now distances.now times.now vehicle) failures.now (take (end - at) (drop at stops.now)) c needed }
     requires stops_in_bounds { (length stops.now ≤ length work.old) × (512 ≤ length cells.old) }
-    ensures { chosen result ≡ try_some two (problem n demand.now service.now ready.now due.now penalty.now flags.now
-        distances.now times.now vehicle) c failures.now k (take (end - at) (drop at stops.now)) (chosen best) }
+    ensures { result ≡ try_some two (problem n demand.now service.now ready.now due.now penalty.now flags.now
+        distances.now times.now vehicle) c failures.now k (take (end - at) (drop at stops.now)) best }
 {
     try_some(
         work,
@@ -129,24 +130,22 @@ fn eject_some(
     due: &[f64],
     penalty: &[f64],
     flags: &[u8],
-) -> Best
+) -> Option<Ejection>
     requires admitted { Admitted (problem n demand.now service.now ready.now due.now penalty.now flags.now distances.now times.now vehicle) }
     requires lent { Lent lengths.now stops.now × All (Stops n) (split lengths.now stops.now) × Counted n failures.now × (c < n)
         × (length stops.now ≤ length work.old) × (512 ≤ length cells.old) × (needed ≡ route_checks_needed flags.now (limits_of vehicle)) }
-    ensures { chosen result ≡ eject_some two (problem n demand.now service.now ready.now due.now penalty.now flags.now
+    ensures { result ≡ eject_some two (problem n demand.now service.now ready.now due.now penalty.now flags.now
         distances.now times.now vehicle) (split lengths.now stops.now) c failures.now }
 {
-    let mut best = Best::Nothing;
+    let mut best = None;
     let mut at = 0;
-    let mut k = 0;
-    while k < lengths.len() {
-        let end = at + lengths[k] as usize;
+    for (k, length) in lengths.iter().enumerate() {
+        let end = at + *length as usize;
         best = try_part(
             work, cells, failures, stops, at, end, k, two, c, best, needed, vehicle, demand, n,
             distances, times, service, ready, due, penalty, flags,
         );
         at = end;
-        k += 1;
     }
     best
 }
@@ -170,22 +169,22 @@ pub fn eject(
     due: &[f64],
     penalty: &[f64],
     flags: &[u8],
-) -> Best
+) -> Option<Ejection>
     requires admitted { Admitted (problem n demand.now service.now ready.now due.now penalty.now flags.now distances.now times.now vehicle) }
     requires lent { Lent lengths.now stops.now × All (Stops n) (split lengths.now stops.now) × Counted n failures.now × (c < n)
         × (length stops.now ≤ length work.old) × (512 ≤ length cells.old) × (needed ≡ route_checks_needed flags.now (limits_of vehicle)) }
-    ensures { chosen result ≡ eject (problem n demand.now service.now ready.now due.now penalty.now flags.now
+    ensures { result ≡ eject (problem n demand.now service.now ready.now due.now penalty.now flags.now
         distances.now times.now vehicle) (split lengths.now stops.now) c failures.now }
 {
     let one = eject_some(
         work, cells, failures, lengths, stops, false, c, needed, vehicle, demand, n, distances,
         times, service, ready, due, penalty, flags,
     );
-    if let Best::At(_) = one {
-        return one;
+    match one {
+        Some(_) => one,
+        None => eject_some(
+            work, cells, failures, lengths, stops, true, c, needed, vehicle, demand, n, distances,
+            times, service, ready, due, penalty, flags,
+        ),
     }
-    eject_some(
-        work, cells, failures, lengths, stops, true, c, needed, vehicle, demand, n, distances,
-        times, service, ready, due, penalty, flags,
-    )
 }

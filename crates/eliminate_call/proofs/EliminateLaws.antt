@@ -1,6 +1,7 @@
 -- eliminate: what a refused call leaves, what an accepted one may rely on and what it answers. Assumes nothing.
 use Prim.Native.Nat.{ℕ}
-use mathlib.Core.Path.{◌≡◌}
+use mathlib.Core.Path.{◌≡◌, sym}
+use Rattle.std.specs.Prelude.{None, Some}
 use mathlib.Core.List.{List}
 use native.Mathlib.Omega.{arith}
 use lib.ListN.{length}
@@ -11,33 +12,32 @@ use Rattle.route_elimination.specs.local_search.Search.{Answers}
 use Rattle.route_elimination.specs.elimination_moves.Eliminate.{eliminate_routes}
 use Rattle.route_elimination.specs.elimination_round.Eliminating.{Eliminating}
 use Rattle.refusals.specs.entry.Table.{Work, refusal}
-use Rattle.refusals.specs.entry.Given.{numbered, eliminate_inputs}
-use Rattle.refusals.specs.EntryAdmittedLaws.{not_refused, eliminate_accepted}
+use Rattle.refusals.specs.entry.Given.{eliminate_inputs}
+use Rattle.refusals.specs.EntryAdmittedLaws.{eliminate_accepted}
 use Rattle.planner.specs.Calls.{refused, answered, Reply, plan_in, public_eliminate}
 use Rattle.planner.proofs.CallLaws.{reply_refused, reply_answered}
 
-module _ (p : Problem) (s : Slices) (r : ℕ) where
-  module _ (w : Work) (e : numbered r ≡ refusal (eliminate_inputs p s w)) where
-    pub eliminate_refused : (r ≡ 0 → ⊥) → ◌≡◌ {A = Reply} (record { answer = refused r; slices = s }) (public_eliminate p s w)
+module _ (p : Problem) (s : Slices) (w : Work) where
+  pub eliminate_refused : (n : ℕ) → Some n ≡ refusal (eliminate_inputs p s w) → ◌≡◌ {A = Reply} (record { answer = refused n; slices = s }) (public_eliminate p s w)
+  unfolding public_eliminate
+  eliminate_refused n e = reply_refused n _ s _ e
+
+  module _ (e : None ≡ refusal (eliminate_inputs p s w)) where
+    pub eliminate_searches : (work : List ℕ) → w.u16_cells ≡ length work → Eliminating p s.lengths s.stops work
+    eliminate_searches work f =
+        let a = eliminate_accepted p s w (sym e) in
+        record {
+          admitted = a.0.admitted;
+          whole = a.0.sum;
+          few = a.0.few;
+          routes_few = a.0.routes;
+          planned = a.0.planned;
+          work_room = omega (arith, a.1.u16_there, f);
+        }
+
+    pub eliminate_answers : (d : Reduction) (t : Slices)
+        → Answers (record { plan = eliminate_routes p (plan_in s); counts = record { steps = 0; draws = 0 } }) (length s.lengths)
+        d.routes d.counts t.lengths t.stops
+        → ◌≡◌ {A = Reply} (record { answer = answered d; slices = t }) (public_eliminate p s w)
     unfolding public_eliminate
-    eliminate_refused h = reply_refused r _ s _ e h
-
-    module _ (h : r ≡ 0) where
-      pub eliminate_searches : (work : List ℕ) → w.u16_cells ≡ length work → Eliminating p s.lengths s.stops work
-      eliminate_searches work f =
-          let a = eliminate_accepted p s w (not_refused r _ e h) in
-          record {
-            admitted = a.0.admitted;
-            whole = a.0.sum;
-            few = a.0.few;
-            routes_few = a.0.routes;
-            planned = a.0.planned;
-            work_room = omega (arith, a.1.u16_there, f);
-          }
-
-      pub eliminate_answers : (d : Reduction) (t : Slices)
-          → Answers (record { plan = eliminate_routes p (plan_in s); counts = record { steps = 0; draws = 0 } }) (length s.lengths)
-          d.routes d.counts t.lengths t.stops
-          → ◌≡◌ {A = Reply} (record { answer = answered d; slices = t }) (public_eliminate p s w)
-      unfolding public_eliminate
-      eliminate_answers d t a = reply_answered r _ s t _ d e h a
+    eliminate_answers d t a = reply_answered _ s t _ d e a

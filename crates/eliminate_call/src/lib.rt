@@ -7,10 +7,10 @@ ghost use Rattle.planner.specs.Calls.{public_eliminate};
 ghost use Rattle.planner.specs.Told.{reply_of, slices_of, work_of, FreeIfAnswered};
 
 use refusals::calls::eliminate_refusal;
-use route_elimination::{Reduction, eliminate_routes};
+use route_elimination::eliminate_routes;
 
 // Of the crates below, passed on to those above.
-pub use planner::calls::Replied;
+pub use planner::{Reduction, Refusal};
 pub use route_elimination::{Counts, Vehicle};
 
 // Fewer routes where the others take a route's stops for less than it costs. The f64 work cells are counted and not touched.
@@ -29,13 +29,13 @@ pub fn eliminate(
     distances: &[f64],
     times: &[f64],
     vehicle: Vehicle,
-) -> Replied
+) -> Result<Reduction, Refusal>
     ensures reply { reply_of result lengths.new stops.new ≡ public_eliminate (problem n demand.now service.now ready.now due.now penalty.now flags.now
         distances.now times.now vehicle)
         (slices_of lengths.old stops.old) (work_of (length work.old) (length cells.now)) }
     ensures work { FreeIfAnswered result work.old work.new }
 {
-    let r = eliminate_refusal(
+    eliminate_refusal(
         lengths,
         stops,
         n,
@@ -50,15 +50,12 @@ pub fn eliminate(
         vehicle,
         work.len(),
         cells.len(),
-    );
-    if r != 0 { // before the first attempt
-        return Replied::Refused(r);
-    }
+    )?; // before the first attempt
     let routes = eliminate_routes(
         lengths, stops, work, vehicle, demand, n, distances, times, service, ready, due, penalty,
         flags,
     );
-    Replied::Answered(Reduction {
+    Ok(Reduction {
         routes,
         counts: Counts { steps: 0, draws: 0 },
     })

@@ -1,7 +1,7 @@
 -- The attempt to move the stops of a route into the others one by one, and the search (route_elimination.rs, `eliminate_routes`).
 -- Assumes nothing.
 use Rattle.std.specs.Prelude.{ℕ, List, cond, not, Float}
-use Rattle.std.proofs.Math.Option.{Option, none, some}
+use Rattle.std.specs.Prelude.{Option, None, Some}
 use Rattle.std.specs.Int.Signed.{lt_z}
 use Rattle.std.specs.Float.Ieee.{lt, le}
 use Rattle.reinsertion_candidates.specs.floats.Binary64.{◌⊕◌, ◌⊖◌, 0f, is_finite}
@@ -41,7 +41,7 @@ moving p r = sort_by (λ c d. lt_z (demand_at p.demand d) (demand_at p.demand c)
 
 -- `for c in moving`, until one has no place
 unfoldable pub move_all : Problem → Float → List ℕ → Plan → Option Moved
-move_all p saved stops rest = foldl (λ m c. bind m (λ n. move_stop p saved n c)) (some (record { rest = rest; added = 0f })) stops
+move_all p saved stops rest = foldl (λ m c. bind m (λ n. move_stop p saved n c)) (Some (record { rest = rest; added = 0f })) stops
 
 -- "accept if added < saved − 1e-12 × the largest distance"
 unfoldable pub if_gained : Problem → Float → Moved → Option Plan
@@ -51,7 +51,7 @@ if_gained p saved m = then_some (lt m.added (saved ⊖ gain_floor p.roads)) m.re
 unfoldable pub without_route : Problem → Plan → ℕ → Option Plan
 without_route p routes r =
     let saved = worth p (route r routes) ⊕ fixed_cost_in_distance p.vehicle in
-    cond (is_finite saved) (bind (move_all p saved (moving p (route r routes)) (erase r routes)) (if_gained p saved)) none
+    cond (is_finite saved) (bind (move_all p saved (moving p (route r routes)) (erase r routes)) (if_gained p saved)) None
 
 -- an attempt counts neither steps nor draws
 unfoldable pub attempt : Problem → Plan → ℕ → Counts → Tried

@@ -5,7 +5,7 @@ use Rattle.std.specs.Prelude.{◌≡◌, true, Float}
 use Rattle.std.proofs.Math.Path.{ap}
 use Rattle.std.proofs.Common.{◌∙◌, arith}
 use mathlib.Core.List.{List, [], ◌∷◌, map, flat_map}
-use Rattle.std.proofs.Math.Option.{Option, some}
+use Rattle.std.specs.Prelude.{Option, Some}
 use Rattle.std.proofs.Math.ListN.{length}
 use Rattle.std.specs.Float.Ieee.{le}
 use Rattle.reinsertion_candidates.specs.floats.Binary64.{◌⊕◌, 0f, is_finite}
@@ -77,7 +77,7 @@ module _ (p : Problem) (c : ℕ) (rest : Plan) where
   first_taken added saved all_nil = tt
   first_taken added saved (all_cons {x = x} {xs = xs} h a) =
       cond_rule (Each (Taken p rest c)) (le saved (added ⊕ x.cost)) (λ _. tt)
-      (λ _. cond_rule (Each (Taken p rest c)) (checked p (trial rest c x)) {x = some x} {y = first_passing p rest c added saved xs}
+      (λ _. cond_rule (Each (Taken p rest c)) (checked p (trial rest c x)) {x = Some x} {y = first_passing p rest c added saved xs}
       (λ e. record { there = h.there; feasible_with = passing x h e })
       (λ _. first_taken added saved a))
 
@@ -118,7 +118,7 @@ module _ (p : Problem) (G : List ℕ → Type 0) (pass : (r : List ℕ) → feas
       cond_rule (Each (Better G before)) (is_finite saved)
       (λ _. each_bind (Moving []) (Better G before) _ (if_gained p saved)
       (λ m h. each_then_some (Better G before) _ m.rest (λ _. record { fewer = h.number; places = λ s. omega (arith, h.places s); kinds = h.kinds }))
-      (move_all_keeps saved (moving p (route r before)) (some (record { rest = erase r before; added = 0f })) (record {
+      (move_all_keeps saved (moving p (route r before)) (Some (record { rest = erase r before; added = 0f })) (record {
         number = length_erase r before r-in;
         places = λ s. omega (arith, occurs_erase s r before r-in, moving_count p s (route r before));
         kinds = all_erase r g;

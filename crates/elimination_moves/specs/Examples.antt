@@ -1,10 +1,7 @@
 -- The definitions computed on small plans: what a slip in them would change. Assumes nothing.
-use Rattle.std.specs.Prelude.{ℕ, ◌≡◌, refl, [], ◌∷◌, replicate, pos, Float}
+use Rattle.std.specs.Prelude.{ℕ, ◌≡◌, refl, [], ◌∷◌, replicate, pos, Float, Option, Some, None}
 use Rattle.std.specs.Float.{binary64}
 use Rattle.std.specs.Float.Ieee.{of_int}
-use Rattle.reinsertion_candidates.specs.models.declared.vehicle.Limit.{Limit}
-use Rattle.reinsertion_candidates.specs.models.declared.vehicle.Limit.TheVariants.{None as NoLimit, At as LimitAt}
-use Rattle.reinsertion_candidates.specs.models.declared.vehicle.Rest.TheVariants.{None as NoRest}
 use Rattle.reinsertion_candidates.specs.models.declared.vehicle.Vehicle.{Vehicle}
 use Rattle.reinsertion_candidates.specs.models.Problem.{Problem, problem}
 use Rattle.reinsertion_candidates.specs.plan.Plan.{Plan}
@@ -15,7 +12,7 @@ abbrev num : ℕ → Float
 num n = of_int binary64 (pos n)
 
 -- a fixed cost of f, and a distance limit
-abbrev van : ℕ → Limit → Vehicle
+abbrev van : ℕ → Option Float → Vehicle
 van f most =
     record {
       capacity = pos 10;
@@ -23,8 +20,8 @@ van f most =
       fixed_cost = num f;
       cost_per_distance = num 1;
       max_distance = most;
-      max_duration = NoLimit;
-      rest = NoRest;
+      max_duration = None;
+      rest = None;
     }
 
 -- three stops of demands 4, 5 and 4, each 10 from the depot and d from one another; stop 2 closes at 10 by its flags, its penalty is 100
@@ -37,35 +34,35 @@ two_routes : Plan
 two_routes = (1 ∷ []) ∷ (2 ∷ []) ∷ []
 
 -- the first of two positions that cost the same; an empty route is dropped
-first_of_equals : eliminate_routes (apart 5 0 (van 0 NoLimit)) ((1 ∷ []) ∷ [] ∷ (2 ∷ []) ∷ []) ≡ (1 ∷ 2 ∷ []) ∷ []
+first_of_equals : eliminate_routes (apart 5 0 (van 0 None)) ((1 ∷ []) ∷ [] ∷ (2 ∷ []) ∷ []) ≡ (1 ∷ 2 ∷ []) ∷ []
 unfolding opened apart
 first_of_equals = refl
 
 -- 20 saved and 20 added: no gain; with a fixed cost there is one
-no_gain : eliminate_routes (apart 20 0 (van 0 NoLimit)) two_routes ≡ two_routes
+no_gain : eliminate_routes (apart 20 0 (van 0 None)) two_routes ≡ two_routes
 unfolding opened apart two_routes
 no_gain = refl
 
-fixed_gain : eliminate_routes (apart 20 0 (van 1 NoLimit)) two_routes ≡ (1 ∷ 2 ∷ []) ∷ []
+fixed_gain : eliminate_routes (apart 20 0 (van 1 None)) two_routes ≡ (1 ∷ 2 ∷ []) ∷ []
 unfolding opened apart two_routes
 fixed_gain = refl
 
 -- a distance limit that the longer route breaks
-limit_kept : eliminate_routes (apart 5 0 (van 0 (LimitAt (num 24)))) two_routes ≡ two_routes
+limit_kept : eliminate_routes (apart 5 0 (van 0 (Some (num 24)))) two_routes ≡ two_routes
 unfolding opened apart two_routes
 limit_kept = refl
 
 -- with a soft window the lateness counts: stop 2 stays first
-soft_worth : eliminate_routes (apart 10 3 (van 0 NoLimit)) two_routes ≡ (2 ∷ 1 ∷ []) ∷ []
+soft_worth : eliminate_routes (apart 10 3 (van 0 None)) two_routes ≡ (2 ∷ 1 ∷ []) ∷ []
 unfolding opened apart two_routes
 soft_worth = refl
 
 -- the largest demand first, the earlier of equals first
-by_demand : moving (apart 5 0 (van 0 NoLimit)) (1 ∷ 3 ∷ 2 ∷ []) ≡ 2 ∷ 1 ∷ 3 ∷ []
+by_demand : moving (apart 5 0 (van 0 None)) (1 ∷ 3 ∷ 2 ∷ []) ≡ 2 ∷ 1 ∷ 3 ∷ []
 unfolding opened apart
 by_demand = refl
 
 -- stops 1 and 3 fit together, and stop 2 with neither pair
-capacity_kept : eliminate_routes (apart 5 0 (van 0 NoLimit)) ((1 ∷ 3 ∷ []) ∷ (2 ∷ []) ∷ []) ≡ (1 ∷ 3 ∷ []) ∷ (2 ∷ []) ∷ []
+capacity_kept : eliminate_routes (apart 5 0 (van 0 None)) ((1 ∷ 3 ∷ []) ∷ (2 ∷ []) ∷ []) ≡ (1 ∷ 3 ∷ []) ∷ (2 ∷ []) ∷ []
 unfolding opened apart
 capacity_kept = refl

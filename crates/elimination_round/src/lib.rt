@@ -27,7 +27,7 @@ pub fn try_next(
     lengths: &mut [u16],
     stops: &mut [u16],
     work: &mut [u16],
-    last: Pick,
+    last: Option<Pick>,
     floor: f64,
     soft: bool,
     needed: bool,
@@ -53,13 +53,12 @@ pub fn try_next(
         (split lengths.old stops.old) (following lengths.old last) uncounted }
     ensures held { NextLeaves 0 n lengths.old stops.old last uncounted result lengths.new stops.new }
 {
-    let pick = next_pick(lengths, last);
-    let Pick::At(r, _) = pick else {
+    let Some(pick) = next_pick(lengths, last) else {
         return Next::End;
     };
     let gained = without_route(
-        lengths, stops, work, r, floor, soft, needed, vehicle, demand, n, distances, times,
-        service, ready, due, penalty, flags,
+        lengths, stops, work, pick.route, floor, soft, needed, vehicle, demand, n, distances,
+        times, service, ready, due, penalty, flags,
     );
     if gained {
         return Next::Accepted(Counts { steps: 0, draws: 0 });

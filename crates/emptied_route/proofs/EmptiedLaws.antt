@@ -4,7 +4,7 @@ use native.Mathlib.Omega.{arith}
 use mathlib.Core.Path.{◌≡◌, sym, ap, ap₂, subst, ◌∙◌}
 use mathlib.Core.Bool.{Bool, true, false, false≢true}
 use mathlib.Core.List.{List, [], ◌∷◌, ◌++◌}
-use mathlib.Core.Option.{Option}
+use Rattle.std.proofs.Common.{Option, None, Some}
 use lib.ListN.{length, get_or, take, drop, length-drop, length-append}
 use lib.Seq.{paste, take-paste, take_at, drop_at, length-take-le}
 use lib.Ieee.{Float, lt}
@@ -20,8 +20,6 @@ use Rattle.moved_stops.specs.route_cost.Route.{gain_floor}
 use Rattle.moved_stops.specs.local_search.Planned.{planned_stops}
 use Rattle.moved_stops.specs.RouteCostVisitLaws.{Visiting}
 use Rattle.moved_stops.specs.elimination_moves.Eliminate.{Moved, moving, move_all, if_gained}
-use Rattle.moved_stops.specs.stop_moves.declared.Sum.{Sum}
-use Rattle.moved_stops.specs.stop_moves.declared.Sum.TheVariants.{Nothing, At}
 use Rattle.moved_stops.specs.elimination_moves.Largest.{in_order, moving_is}
 use Rattle.moved_stops.specs.stop_moves.Moves.{held_by, Waiting, Grown, Kept}
 use Rattle.emptied_route.specs.Attempts.{Attempted, emptied, fewer, Accepted}
@@ -76,13 +74,13 @@ module _ (ls : List ℕ) (h : 0 < length ls) where
     back_fewer : fewer ls whole ≡ out
     back_fewer = take_at out (drop (length ls - 1 - 0) (drop 0 ls)) (length ls - 1) (omega (arith, k, ap length lent_fewer, length-take-le (length ls - 1) ls (omega arith)))
 
-    pub into_moved : (p : Problem) (saved : Float) (xs st st₁ : List ℕ) (r : Sum)
+    pub into_moved : (p : Problem) (saved : Float) (xs st st₁ : List ℕ) (r : Option Float)
         → held_by r (split out st₁) ≡ move_all p saved xs (split (take (length ls - 1 - 0) (drop 0 ls)) st)
         → held_by r (split (fewer ls whole) st₁) ≡ move_all p saved xs (split (fewer ls ls) st)
     into_moved p saved xs st st₁ r e =
         ap (λ (l : List ℕ). held_by r (split l st₁)) back_fewer ∙ e ∙ ap (λ (l : List ℕ). move_all p saved xs (split l st)) lent_fewer
 
-    pub into_kept : (n count : ℕ) (r : Sum) (st₁ : List ℕ) → Kept n r (total (take (length ls - 1 - 0) (drop 0 ls)) + count) out st₁
+    pub into_kept : (n count : ℕ) (r : Option Float) (st₁ : List ℕ) → Kept n r (total (take (length ls - 1 - 0) (drop 0 ls)) + count) out st₁
         → Kept n r (total (fewer ls ls) + count) (fewer ls whole) st₁
     into_kept n count r st₁ g =
         subst (λ (l : List ℕ). Kept n r (total (fewer ls ls) + count) l st₁) (sym back_fewer)
@@ -135,7 +133,7 @@ module _ (p : Problem) (s needed : Bool) (ls st : List ℕ) (r : ℕ) (g : Attem
       }
 
   -- the stops are moved in the order of the definition
-  module _ (saved : Float) (sum : Sum) (ls₂ st₂ : List ℕ)
+  module _ (saved : Float) (sum : Option Float) (ls₂ st₂ : List ℕ)
       (m : held_by sum (split (fewer ls₁ ls₂) st₂) ≡ move_all p saved (in_order p.demand (get_or ls r 0) (take (get_or ls r 0) left)) (split (fewer ls₁ ls₁) st₁)) where
     there : fewer ls₁ ls₂ ≡ fewer ls ls₂
     there = ap (λ (k : ℕ). take (k - 1) ls₂) same_long
@@ -145,22 +143,22 @@ module _ (p : Problem) (s needed : Bool) (ls st : List ℕ) (r : ℕ) (g : Attem
         ap (λ (l : List ℕ). held_by sum (split l st₂)) (sym there) ∙ m
         ∙ ap₂ (λ (xs : List ℕ) (x : Plan). move_all p saved xs x) (ap (in_order p.demand (get_or ls r 0)) c ∙ ap (λ (k : ℕ). in_order p.demand k (route r (split ls st))) number ∙ sym (moving_is p (route r (split ls st)))) rest_routes
 
-    pub empty_stuck : sum ≡ Nothing → then_some false (split (fewer ls ls₂) st₂) ≡ emptied p saved (split ls st) r
+    pub empty_stuck : sum ≡ None → then_some false (split (fewer ls ls₂) st₂) ≡ emptied p saved (split ls st) r
     unfolding bind then_some
-    empty_stuck q = ap (λ (o : Option Moved). bind o (if_gained p saved)) (ap (λ (x : Sum). held_by x (split (fewer ls ls₂) st₂)) (sym q) ∙ whole_move)
+    empty_stuck q = ap (λ (o : Option Moved). bind o (if_gained p saved)) (ap (λ (x : Option Float). held_by x (split (fewer ls ls₂) st₂)) (sym q) ∙ whole_move)
 
-    module _ (added : Float) (q : sum ≡ At added) where
+    module _ (added : Float) (q : sum ≡ Some added) where
       pub empty_gained : (x : Float) → x ≡ gain_floor p.roads → then_some (lt added (saved ⊖ x)) (split (fewer ls ls₂) st₂) ≡ emptied p saved (split ls st) r
       unfolding bind if_gained
       empty_gained x ex =
           ap (λ (y : Float). then_some (lt added (saved ⊖ y)) (split (fewer ls ls₂) st₂)) ex
-          ∙ ap (λ (o : Option Moved). bind o (if_gained p saved)) (ap (λ (x : Sum). held_by x (split (fewer ls ls₂) st₂)) (sym q) ∙ whole_move)
+          ∙ ap (λ (o : Option Moved). bind o (if_gained p saved)) (ap (λ (x : Option Float). held_by x (split (fewer ls ls₂) st₂)) (sym q) ∙ whole_move)
 
       pub empty_accepted : Kept p.roads.size sum (total (fewer ls₁ ls₁) + get_or ls r 0) (fewer ls₁ ls₂) st₂ → ls₂ ≡ fewer ls₁ ls₂ ++ drop (length ls₁ - 1) ls₁
           → Accepted ls ls₂
       empty_accepted k d =
           let w : Grown p.roads.size (total (fewer ls₁ ls₁) + get_or ls r 0) (fewer ls₁ ls₂) st₂ =
-          subst (λ (x : Sum). Kept p.roads.size x (total (fewer ls₁ ls₁) + get_or ls r 0) (fewer ls₁ ls₂) st₂) q k in
+          subst (λ (x : Option Float). Kept p.roads.size x (total (fewer ls₁ ls₁) + get_or ls r 0) (fewer ls₁ ls₂) st₂) q k in
           let tail : drop (length ls₁ - 1) ls₁ ≡ 0 ∷ [] =
           ap (λ (k : ℕ). drop (k - 1) ls₁) same_long ∙ ap (λ (l : List ℕ). drop (length ls - 1) l) e ∙ drop_at (erase r ls) (0 ∷ []) (length ls - 1) long in
           record {

@@ -1,6 +1,6 @@
 -- What the code asks of an attempt, and what it leaves of the two slices. Assumes nothing.
 use Rattle.std.specs.Prelude.{ℕ, ◌-◌, ◌<◌, ◌≡◌, Bool, true, false, List, [], ◌∷◌, ◌++◌, length, take, Float}
-use Rattle.std.proofs.Math.Option.{Option}
+use Rattle.std.specs.Prelude.{Option}
 use Rattle.route_removal.specs.laws.Edits.{erase}
 use Rattle.moved_stops.specs.models.Problem.{Problem, Admitted}
 use Rattle.route_removal.specs.plan.Plan.{Plan, Lent, split, route, total}

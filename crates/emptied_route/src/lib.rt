@@ -11,7 +11,7 @@ ghost use Rattle.moved_stops.specs.elimination_moves.Largest.{in_order};
 ghost use Rattle.moved_stops.specs.stop_moves.Moves.{held_by, Waiting, Kept};
 ghost use Rattle.emptied_route.specs.Attempts.{Attempted, emptied, fewer, Accepted};
 
-use moved_stops::{Sum, move_all};
+use moved_stops::move_all;
 use route_removal::{copy_part, erase_route};
 
 // Of the crates below, passed on to those above.
@@ -49,7 +49,7 @@ fn move_into(
     due: &[f64],
     penalty: &[f64],
     flags: &[u8],
-) -> Sum
+) -> Option<f64>
     requires { Waiting (problem n demand.now service.now ready.now due.now penalty.now flags.now distances.now times.now vehicle) soft needed (fewer lengths.old lengths.old) stops.old left.old count × (0 < length lengths.old) }
     ensures moved { held_by result (split (fewer lengths.old lengths.new) stops.new) ≡ move_all (problem n demand.now service.now ready.now due.now penalty.now flags.now
         distances.now times.now vehicle) saved
@@ -112,7 +112,7 @@ pub fn empty_route(
         lengths, stops, &mut left, count, saved, soft, needed, vehicle, demand, n, distances,
         times, service, ready, due, penalty, flags,
     );
-    let Sum::At(added) = sum else {
+    let Some(added) = sum else {
         return false;
     };
     added < saved - floor

@@ -3,14 +3,13 @@ use Prim.Native.Nat.{ℕ, ◌≤◌, ◌<◌}
 use mathlib.Core.Path.{◌≡◌, refl, sym, ap, ◌∙◌}
 use mathlib.Core.Bool.{Bool, true, false, not, ◌||◌, true≢false}
 use mathlib.Core.List.{List, [], ◌∷◌}
-use mathlib.Core.Option.{Option, none, some}
+use Rattle.std.specs.Prelude.{Option, None, Some}
 use native.Mathlib.Omega.{arith}
 use borrow.Author.Tests.{ltb-true, ltb-false, eqb-true}
 use lib.ListN.{length, get_or, take}
 use lib.Dec.{eqb, ltb}
 use Rattle.local_search.specs.laws.Counts.{count}
 use Rattle.local_search.specs.laws.Searches.{and_first, every_at, or_neither}
-use Rattle.local_search.specs.models.declared.vehicle.Rest.TheVariants.{Break}
 use Rattle.local_search.specs.models.declared.vehicle.VehicleBreak.{VehicleBreak}
 use Rattle.local_search.specs.models.Problem.{Problem, Stops, Admitted}
 use Rattle.local_search.specs.models.Valid.{rest_passes, sizes_pass, values_pass, windows_pass, depot_passes, valid}
@@ -19,24 +18,20 @@ use Rattle.local_search.specs.plan.Plan.{Slices, total, split}
 use Rattle.local_search.specs.plan.Slices.{flat_split_all}
 use Rattle.local_search.specs.Planned.{Planned}
 use Rattle.entry.specs.Table.{Work, stop_passes, stops_pass, bad_lengths, is_empty, too_few, refusal}
-use Rattle.entry.specs.Given.{numbered, problem_inputs, route_inputs, schedule_inputs, eliminate_inputs, minimise_inputs}
+use Rattle.entry.specs.Given.{problem_inputs, route_inputs, schedule_inputs, eliminate_inputs, minimise_inputs}
 use Rattle.entry.specs.Rows.{problem_rows, route_rows, plan_rows, work_rows, minimise_rows, or_else, problem_refusal, route_refusal, schedule_refusal, eliminate_refusal, minimise_refusal}
 use Rattle.entry.proofs.StopsLaws.{both, stops_distinct, distinct_few, distinct_outside}
 use Rattle.entry.proofs.EntryLaws.{row_passed, passes}
 
--- the code's 0 is no refusal
-pub not_refused : (r : ℕ) (x : Option ℕ) → numbered r ≡ x → r ≡ 0 → x ≡ none
-not_refused r x e h = sym e ∙ ap numbered h
-
 -- ---- no group has a refusal
 
-neither_group : (x y : Option ℕ) → or_else x y ≡ none → (x ≡ none) × (y ≡ none)
-neither_group none y e = (refl, e)
-neither_group (some n) y e = (e, cc)
+neither_group : (x y : Option ℕ) → or_else x y ≡ None → (x ≡ None) × (y ≡ None)
+neither_group None y e = (refl, e)
+neither_group (Some n) y e = (e, cc)
 
 -- ---- rows 1 to 4
 
-pub rows_valid : (p : Problem) (beside : Bool) → problem_rows beside p ≡ none → (valid p ≡ true) × (beside ≡ true)
+pub rows_valid : (p : Problem) (beside : Bool) → problem_rows beside p ≡ None → (valid p ≡ true) × (beside ≡ true)
 unfolding problem_rows valid
 rows_valid p beside e =
     let a = row_passed (not (sizes_pass p)) 1 _ e in
@@ -72,7 +67,7 @@ module _ (p : Problem) (v : valid p ≡ true) (route : List ℕ) where
         passing = e;
       }
 
-  rows_routed : route_rows p route ≡ none → Routed p route
+  rows_routed : route_rows p route ≡ None → Routed p route
   unfolding route_rows
   rows_routed e = stops_routed (passes (stops_pass p route) (row_passed (not (stops_pass p route)) 6 _ e).0)
 
@@ -84,7 +79,7 @@ pub record Accepted (p : Problem) (s : Slices) : Type 0 where
   pub few : length s.stops ≤ 255
   pub planned : Planned p.roads.size (split s.lengths s.stops)
 
-rows_accepted : (p : Problem) (s : Slices) → valid p ≡ true → plan_rows p s ≡ none → Accepted p s
+rows_accepted : (p : Problem) (s : Slices) → valid p ≡ true → plan_rows p s ≡ None → Accepted p s
 unfolding plan_rows bad_lengths
 rows_accepted p s v e =
     let a = row_passed (bad_lengths s) 5 _ e in
@@ -109,7 +104,7 @@ pub record Enough (w : Work) : Type 0 where
   pub u16_there : 8192 ≤ w.u16_cells
   pub f64_there : 2048 ≤ w.f64_cells
 
-rows_enough : (w : Work) → work_rows w ≡ none → Enough w
+rows_enough : (w : Work) → work_rows w ≡ None → Enough w
 unfolding work_rows too_few
 rows_enough w e =
     let a = or_neither (ltb w.u16_cells 8192) (ltb w.f64_cells 2048) (row_passed (too_few w) 9 _ e).0 in
@@ -124,7 +119,7 @@ pub record Allowed (tape : List ℕ) (limit : ℕ) (w : Work) : Type 0 where
   pub steps : limit ≤ 65535
   pub enough : Enough w
 
-rows_allowed : (tape : List ℕ) (limit : ℕ) (w : Work) → minimise_rows tape limit w ≡ none → Allowed tape limit w
+rows_allowed : (tape : List ℕ) (limit : ℕ) (w : Work) → minimise_rows tape limit w ≡ None → Allowed tape limit w
 unfolding minimise_rows
 rows_allowed tape limit w e =
     let a = row_passed (is_empty tape) 7 _ e in
@@ -134,32 +129,32 @@ rows_allowed tape limit w e =
 -- ---- the calls
 
 module _ (p : Problem) where
-  pub problem_accepted : refusal (problem_inputs p) ≡ none → valid p ≡ true
+  pub problem_accepted : refusal (problem_inputs p) ≡ None → valid p ≡ true
   problem_accepted e = (rows_valid p true (sym (problem_refusal p) ∙ e)).0
 
   module _ (r : List ℕ) where
-    pub route_accepted : refusal (route_inputs p r) ≡ none → (valid p ≡ true) × Routed p r
+    pub route_accepted : refusal (route_inputs p r) ≡ None → (valid p ≡ true) × Routed p r
     route_accepted e =
         let g = neither_group (problem_rows true p) (route_rows p r) (sym (route_refusal p r) ∙ e) in
         let v = (rows_valid p true g.0).0 in
         (v, rows_routed p v r g.1)
 
-    pub schedule_accepted : (b : VehicleBreak) → refusal (schedule_inputs p b r) ≡ none
-        → (valid p ≡ true) × Routed p r × (rest_passes (Break b.earliest b.latest b.duration) ≡ true)
+    pub schedule_accepted : (b : VehicleBreak) → refusal (schedule_inputs p b r) ≡ None
+        → (valid p ≡ true) × Routed p r × (rest_passes (Some b) ≡ true)
     schedule_accepted b e =
-        let fine = rest_passes (Break b.earliest b.latest b.duration) in
+        let fine = rest_passes (Some b) in
         let g = neither_group (problem_rows fine p) (route_rows p r) (sym (schedule_refusal p b r) ∙ e) in
         let v = rows_valid p fine g.0 in
         (v.0, rows_routed p v.0 r g.1, v.1)
 
   module _ (s : Slices) (w : Work) where
-    pub eliminate_accepted : refusal (eliminate_inputs p s w) ≡ none → Accepted p s × Enough w
+    pub eliminate_accepted : refusal (eliminate_inputs p s w) ≡ None → Accepted p s × Enough w
     eliminate_accepted e =
         let g = neither_group (problem_rows true p) (or_else (plan_rows p s) (work_rows w)) (sym (eliminate_refusal p s w) ∙ e) in
         let h = neither_group (plan_rows p s) (work_rows w) g.1 in
         (rows_accepted p s (rows_valid p true g.0).0 h.0, rows_enough w h.1)
 
-    pub minimise_accepted : (tape : List ℕ) (limit : ℕ) → refusal (minimise_inputs p s tape limit w) ≡ none → Accepted p s × Allowed tape limit w
+    pub minimise_accepted : (tape : List ℕ) (limit : ℕ) → refusal (minimise_inputs p s tape limit w) ≡ None → Accepted p s × Allowed tape limit w
     minimise_accepted tape limit e =
         let g = neither_group (problem_rows true p) (or_else (plan_rows p s) (minimise_rows tape limit w)) (sym (minimise_refusal p s w tape limit) ∙ e) in
         let h = neither_group (plan_rows p s) (minimise_rows tape limit w) g.1 in

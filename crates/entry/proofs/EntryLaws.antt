@@ -4,7 +4,7 @@ use Prim.Native.Nat.{ℕ, ◌≤◌}
 use mathlib.Core.Path.{◌≡◌, refl, ap}
 use mathlib.Core.Bool.{Bool, true, false, cond, not, ◌||◌}
 use mathlib.Core.List.{List}
-use mathlib.Core.Option.{Option, none, some}
+use Rattle.std.specs.Prelude.{Option, None, Some}
 use borrow.Author.Tests.{ltb-false, le-ltb, eqb-true, eq-eqb}
 use lib.ListN.{length, drop}
 use lib.Dec.{eqb, ltb}
@@ -18,19 +18,19 @@ use Rattle.entry.proofs.StopsLaws.{both}
 
 -- the inputs of a call on a plan, whatever else it is given
 abbrev pub call_inputs : Problem → Slices → Option (List ℕ) → Option ℕ → Option Work → Inputs
-call_inputs p s tape limit work = record { problem = p; rest = none; plan = some s; route = none; tape = tape; limit = limit; work = work }
+call_inputs p s tape limit work = record { problem = p; rest = None; plan = Some s; route = None; tape = tape; limit = limit; work = work }
 
 -- ---- a row before some others
 
-row_first : (b : Bool) (n k : ℕ) (x y : Option ℕ) → (x ≡ some k → y ≡ some k) → cond b (some n) x ≡ some k → cond b (some n) y ≡ some k
+row_first : (b : Bool) (n k : ℕ) (x y : Option ℕ) → (x ≡ Some k → y ≡ Some k) → cond b (Some n) x ≡ Some k → cond b (Some n) y ≡ Some k
 row_first true n k x y f e = e
 row_first false n k x y f e = f e
 
-pub row_passed : (b : Bool) (n : ℕ) (x : Option ℕ) → cond b (some n) x ≡ none → (b ≡ false) × (x ≡ none)
+pub row_passed : (b : Bool) (n : ℕ) (x : Option ℕ) → cond b (Some n) x ≡ None → (b ≡ false) × (x ≡ None)
 row_passed true n x e = (cc, cc)
 row_passed false n x e = (refl, e)
 
-row_over : (b : Bool) (n : ℕ) (x y : Option ℕ) → b ≡ false → x ≡ y → cond b (some n) x ≡ y
+row_over : (b : Bool) (n : ℕ) (x y : Option ℕ) → b ≡ false → x ≡ y → cond b (Some n) x ≡ y
 row_over b n x y e f = rw (e, f)
 
 pub passes : (b : Bool) → not b ≡ false → b ≡ true
@@ -40,8 +40,8 @@ passes false e = cc
 module _ (p : Problem) (s : Slices) where
   -- ---- refused at the entry
 
-  pub entry_first : (tape : Option (List ℕ)) (limit : Option ℕ) (work : Option Work) (k : ℕ) → entry p s ≡ some k
-      → refusal (call_inputs p s tape limit work) ≡ some k
+  pub entry_first : (tape : Option (List ℕ)) (limit : Option ℕ) (work : Option Work) (k : ℕ) → entry p s ≡ Some k
+      → refusal (call_inputs p s tape limit work) ≡ Some k
   unfolding refusal first_applying table
   entry_first tape limit work k e =
       row_first (not (sizes_pass p)) 1 k _ _
@@ -59,7 +59,7 @@ module _ (p : Problem) (s : Slices) where
     pub sum : total s.lengths ≡ length s.stops
     pub stops_valid : stops_pass p s.stops ≡ true
 
-  pub entered : entry p s ≡ none → Entered
+  pub entered : entry p s ≡ None → Entered
   unfolding refusal first_applying table bad_lengths valid
   entered e =
       let a = row_passed (not (sizes_pass p)) 1 _ e in
@@ -76,21 +76,21 @@ module _ (p : Problem) (s : Slices) where
         stops_valid = passes (stops_pass p s.stops) (or_neither (not (stops_pass p s.stops)) false g.0).0;
       }
 
-  pub enter : Entered → entry p s ≡ none
+  pub enter : Entered → entry p s ≡ None
   unfolding refusal first_applying table bad_lengths valid
   enter h =
       let v = h.problem_valid in
       let v2 = and_second (sizes_pass p) _ v in
       let v3 = and_second (values_pass p) _ v2 in
-      row_over (not (sizes_pass p)) 1 _ none (ap not (and_first (sizes_pass p) _ v))
-      (row_over (not (values_pass p) || false) 2 _ none (rw (and_first (values_pass p) _ v2))
-      (row_over (not (windows_pass p)) 3 _ none (ap not (and_first (windows_pass p) _ v3))
-      (row_over (not (depot_passes p)) 4 _ none (ap not (and_second (windows_pass p) _ v3))
-      (row_over (bad_lengths s) 5 _ none (rw (le-ltb 256 (length s.lengths) h.few_routes, eq-eqb (total s.lengths) (length s.stops) h.sum))
-      (row_over (not (stops_pass p s.stops) || false) 6 _ none (rw h.stops_valid) refl)))))
+      row_over (not (sizes_pass p)) 1 _ None (ap not (and_first (sizes_pass p) _ v))
+      (row_over (not (values_pass p) || false) 2 _ None (rw (and_first (values_pass p) _ v2))
+      (row_over (not (windows_pass p)) 3 _ None (ap not (and_first (windows_pass p) _ v3))
+      (row_over (not (depot_passes p)) 4 _ None (ap not (and_second (windows_pass p) _ v3))
+      (row_over (bad_lengths s) 5 _ None (rw (le-ltb 256 (length s.lengths) h.few_routes, eq-eqb (total s.lengths) (length s.stops) h.sum))
+      (row_over (not (stops_pass p s.stops) || false) 6 _ None (rw h.stops_valid) refl)))))
 
   -- an accepted plan: later calls are refused only for their own rows, 7, 8 and 9
-  pub own_rows : (tape : Option (List ℕ)) (limit : Option ℕ) (work : Option Work) → entry p s ≡ none
+  pub own_rows : (tape : Option (List ℕ)) (limit : Option ℕ) (work : Option Work) → entry p s ≡ None
       → refusal (call_inputs p s tape limit work) ≡ first_applying (drop 6 table) (call_inputs p s tape limit work)
   unfolding refusal first_applying table
   own_rows tape limit work e =

@@ -33,7 +33,7 @@ every_all t (suc m) k f = both (f k (le_refl k) (omega arith)) (every_all t m (s
 -- ---- not among the stops, and counted 0 times
 
 absent_count : (c : ℕ) (xs : List ℕ) → any (eqb c) xs ≡ false → count c xs ≡ 0
-unfolding any count one_if
+unfolding count one_if
 absent_count c [] e = refl
 absent_count c (x ∷ xs) e = go (eqb c x) e (λ f. absent_count c xs f)
   where
@@ -42,7 +42,7 @@ absent_count c (x ∷ xs) e = go (eqb c x) e (λ f. absent_count c xs f)
     go false f rest = omega (arith, rest f)
 
 count_absent : (c : ℕ) (xs : List ℕ) → count c xs ≡ 0 → any (eqb c) xs ≡ false
-unfolding any count one_if
+unfolding count one_if
 count_absent c [] e = refl
 count_absent c (x ∷ xs) e = go (eqb c x) e (λ f. count_absent c xs f)
   where

@@ -18,6 +18,7 @@ pub use Rattle.local_search.specs.evaluation as evaluation
 pub use Rattle.local_search.specs.plan as plan
 pub use Rattle.local_search.specs.route_cost as route_cost
 pub use Rattle.local_search.specs as local_search
+pub use Rattle.refusal.specs as refusal
 -- and their laws
 pub use Rattle.local_search.specs.BreakClockStopLaws as BreakClockStopLaws
 pub use Rattle.local_search.proofs.ReadLaws as LocalSearchReadLaws

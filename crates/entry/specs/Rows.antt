@@ -1,8 +1,7 @@
 -- The rows of the table in groups, by what they read; a call's refusal is the first of its groups that has one. Assumes nothing.
 use Rattle.std.specs.Prelude.{ℕ, Bool, true, false, cond, not, ◌||◌, List, ◌≡◌, ltb}
-use Rattle.std.proofs.Math.Option.{Option, none, some}
+use Rattle.std.specs.Prelude.{Option, None, Some}
 use Rattle.std.proofs.Math.Path.{refl}
-use Rattle.local_search.specs.models.declared.vehicle.Rest.TheVariants.{Break}
 use Rattle.local_search.specs.models.declared.vehicle.VehicleBreak.{VehicleBreak}
 use Rattle.local_search.specs.models.Problem.{Problem}
 use Rattle.local_search.specs.models.Valid.{rest_passes, sizes_pass, values_pass, windows_pass, depot_passes}
@@ -13,33 +12,33 @@ use Rattle.entry.specs.Given.{problem_inputs, route_inputs, schedule_inputs, eli
 -- rows 1 to 4; `beside` says whether the floats given beside the problem pass row 2
 unfoldable pub problem_rows : Bool → Problem → Option ℕ
 problem_rows beside p =
-    cond (not (sizes_pass p)) (some 1)
-    (cond (not (values_pass p) || not beside) (some 2) (cond (not (windows_pass p)) (some 3) (cond (not (depot_passes p)) (some 4) none)))
+    cond (not (sizes_pass p)) (Some 1)
+    (cond (not (values_pass p) || not beside) (Some 2) (cond (not (windows_pass p)) (Some 3) (cond (not (depot_passes p)) (Some 4) None)))
 
 -- row 6, of a route
 unfoldable pub route_rows : Problem → List ℕ → Option ℕ
-route_rows p r = cond (not (stops_pass p r)) (some 6) none
+route_rows p r = cond (not (stops_pass p r)) (Some 6) None
 
 -- rows 5 and 6, of a plan
 unfoldable pub plan_rows : Problem → Slices → Option ℕ
-plan_rows p s = cond (bad_lengths s) (some 5) (route_rows p s.stops)
+plan_rows p s = cond (bad_lengths s) (Some 5) (route_rows p s.stops)
 
 -- row 9
 unfoldable pub work_rows : Work → Option ℕ
-work_rows w = cond (too_few w) (some 9) none
+work_rows w = cond (too_few w) (Some 9) None
 
 -- rows 7 to 9
 unfoldable pub minimise_rows : List ℕ → ℕ → Work → Option ℕ
-minimise_rows tape limit w = cond (is_empty tape) (some 7) (cond (ltb 65535 limit) (some 8) (work_rows w))
+minimise_rows tape limit w = cond (is_empty tape) (Some 7) (cond (ltb 65535 limit) (Some 8) (work_rows w))
 
 -- the first of two groups that has a refusal
 abbrev pub or_else : Option ℕ → Option ℕ → Option ℕ
-or_else none y = y
-or_else (some n) y = some n
+or_else None y = y
+or_else (Some n) y = Some n
 
 -- ---- the calls' refusals by these groups
 
-row_then : (b : Bool) (n : ℕ) (x y z : Option ℕ) → z ≡ or_else x y → cond b (some n) z ≡ or_else (cond b (some n) x) y
+row_then : (b : Bool) (n : ℕ) (x y z : Option ℕ) → z ≡ or_else x y → cond b (Some n) z ≡ or_else (cond b (Some n) x) y
 row_then true n x y z e = refl
 row_then false n x y z e = e
 
@@ -58,7 +57,7 @@ module _ (p : Problem) where
       row_then (not (sizes_pass p)) 1 _ _ _ (row_then (not (values_pass p) || false) 2 _ _ _
       (row_then (not (windows_pass p)) 3 _ _ _ (row_then (not (depot_passes p)) 4 _ _ _ refl)))
 
-  pub schedule_refusal : (b : VehicleBreak) (r : List ℕ) → refusal (schedule_inputs p b r) ≡ or_else (problem_rows (rest_passes (Break b.earliest b.latest b.duration)) p) (route_rows p r)
+  pub schedule_refusal : (b : VehicleBreak) (r : List ℕ) → refusal (schedule_inputs p b r) ≡ or_else (problem_rows (rest_passes (Some b)) p) (route_rows p r)
   unfolding refusal first_applying table problem_rows route_rows
   schedule_refusal b r =
       row_then (not (sizes_pass p)) 1 _ _ _ (row_then (not (values_pass p) || bad_break b) 2 _ _ _

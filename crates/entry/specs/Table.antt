@@ -1,8 +1,7 @@
 -- The refusal table ("The problem and the entry checks"): one list of rows in order. Every public call reads its refusal from it. Assumes nothing.
-use Rattle.std.specs.Prelude.{ℕ, List, [], ◌∷◌, Bool, true, false, cond, not, ◌&&◌, ◌||◌, length, get_or, take, eqb, ltb}
-use Rattle.std.proofs.Math.Option.{Option, none, some}
+use Rattle.std.specs.Prelude.{ℕ, List, [], ◌∷◌, Bool, true, false, cond, not, ◌&&◌, ◌||◌, length, get_or, take, eqb, ltb, Some}
+use Rattle.std.specs.Prelude.{Option, None, Some}
 use Rattle.local_search.specs.laws.Searches.{any, every}
-use Rattle.local_search.specs.models.declared.vehicle.Rest.TheVariants.{Break}
 use Rattle.local_search.specs.models.declared.vehicle.VehicleBreak.{VehicleBreak}
 use Rattle.local_search.specs.models.Problem.{Problem, depot}
 use Rattle.local_search.specs.models.Valid.{rest_passes, sizes_pass, values_pass, windows_pass, depot_passes}
@@ -25,14 +24,14 @@ pub record Inputs : Type 0 where
 
 -- a test of an input: "a row applies where a call has that input"
 abbrev pub if_given : {A : Type 0} → (A → Bool) → Option A → Bool
-if_given test none = false
-if_given test (some a) = test a
+if_given test None = false
+if_given test (Some a) = test a
 
 -- ---- the rows' tests
 
 -- row 2: the break that `schedule` is given beside the problem has floats too
 abbrev pub bad_break : VehicleBreak → Bool
-bad_break b = not (rest_passes (Break b.earliest b.latest b.duration))
+bad_break b = not (rest_passes (Some b))
 
 -- row 5: "over 256 routes, or lengths do not sum to the number of stops"
 unfoldable pub bad_lengths : Slices → Bool
@@ -85,8 +84,8 @@ table =
 
 -- the number of the first of some rows that applies
 unfoldable pub first_applying : List Row → Inputs → Option ℕ
-first_applying [] i = none
-first_applying (r ∷ rs) i = cond (r.applies i) (some r.number) (first_applying rs i)
+first_applying [] i = None
+first_applying (r ∷ rs) i = cond (r.applies i) (Some r.number) (first_applying rs i)
 
 -- what a call is refused with: the first number that applies
 unfoldable pub refusal : Inputs → Option ℕ

@@ -4,6 +4,7 @@
 
 // Of the crates below, passed on to those above.
 pub use local_search::{
-    Eval, RouteEval, Taken, Vehicle, break_schedule_schedule, evaluation_check,
-    route_cost_gain_floor, route_cost_route_distance,
+    RouteEval, Vehicle, break_schedule_schedule, evaluation_check, route_cost_gain_floor,
+    route_cost_route_distance,
 };
+pub use refusal::Refusal;

@@ -1,5 +1,3 @@
 -- Laws of this crate's definitions. A file uses only files above it in this list.
--- specs/Eval, an evaluation against the limits
-pub mod LimitLaws
 -- specs/Check, as the code of `check` and of `trial_route` meets it
 pub mod CheckLaws

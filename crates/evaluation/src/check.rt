@@ -7,8 +7,7 @@ ghost use Rattle.evaluation.specs.Check.{set_out, departure, reach, reach_all, h
 
 use crate::eval::{is_feasible, limited};
 use break_schedule::{
-    Customer, Penalty, Rest, RouteLimits, VehicleBreak, Window, customer_at, get, schedule,
-    travel_time,
+    Customer, RouteLimits, TimeWindow, VehicleBreak, customer_at, get, schedule, travel_time,
 };
 
 // A route as far as it has been driven: the time its last stop is left, the distance so far, and that stop.
@@ -17,12 +16,6 @@ pub struct Way {
     pub time: f64,
     pub distance: f64,
     pub prev: usize,
-}
-
-#[derive(Clone, Copy)]
-pub enum Reached {
-    Late,
-    At(Way),
 }
 
 impl Way {
@@ -38,33 +31,22 @@ impl Way {
     }
 }
 
-// When a customer's service ends, `Option<f64>`.
-#[derive(Clone, Copy)]
-pub enum Left {
-    Missed,
-    At(f64),
-}
-
-// When the service ends after `arrival`; missed where a window without a penalty has closed.
-pub fn departure(arrival: f64, customer: Customer) -> Left
+// When the service ends after `arrival`; none where a window without a penalty has closed.
+#[tactic(auto, unfolding(crate::specs::Check::departure))]
+pub fn departure(arrival: f64, customer: Customer) -> Option<f64>
     ensures { result ≡ departure arrival customer }
 {
-    let window = customer.time_window;
-    let Window::Is(tw) = window else {
-        return Left::At(arrival + customer.service_duration);
+    let Some(tw) = customer.time_window else {
+        return Some(arrival + customer.service_duration);
     };
-    let start = arrival + tw.waiting_time(arrival);
-    if tw.is_violated(arrival) {
-        let soft = customer.lateness_penalty;
-        let Penalty::Of(_) = soft else {
-            return Left::Missed;
-        };
-        return Left::At(start + customer.service_duration);
+    if tw.is_violated(arrival) && customer.lateness_penalty.is_none() {
+        return None;
     }
-    Left::At(start + customer.service_duration)
+    Some(arrival + tw.waiting_time(arrival) + customer.service_duration)
 }
 
 // The drive to the next stop and the service there.
+#[tactic(auto, unfolding(crate::specs::Check::reach))]
 pub fn reach(
     way: Way,
     c: usize,
@@ -76,28 +58,25 @@ pub fn reach(
     due: &[f64],
     penalty: &[f64],
     flags: &[u8],
-) -> Reached
+) -> Option<Way>
     requires fit { Fit (customers service.now ready.now due.now penalty.now flags.now) (matrix n distances.now times.now) }
     requires prev_lt_n { (way.prev < n) × (c < n) }
     ensures { result ≡ reach (customers service.now ready.now due.now penalty.now flags.now)
         (matrix n distances.now times.now) way c }
 {
-    let prev = way.prev;
-    let distance = way.distance + get(distances, n, prev, c);
-    let arrival = way.time + travel_time(distances, times, n, prev, c);
+    let distance = way.distance + get(distances, n, way.prev, c);
+    let arrival = way.time + travel_time(distances, times, n, way.prev, c);
     let customer = customer_at(c, service, ready, due, penalty, flags);
-    let left = departure(arrival, customer);
-    match left {
-        Left::Missed => Reached::Late,
-        Left::At(time) => Reached::At(Way {
-            time,
-            distance,
-            prev: c,
-        }),
-    }
+    let time = departure(arrival, customer)?;
+    Some(Way {
+        time,
+        distance,
+        prev: c,
+    })
 }
 
 // The stops in order, as far as they are reached in time.
+#[tactic(auto, using(crate::proofs::CheckLaws::reaching_laws))]
 pub fn reach_all(
     way: Way,
     stops: &[u16],
@@ -109,29 +88,32 @@ pub fn reach_all(
     due: &[f64],
     penalty: &[f64],
     flags: &[u8],
-) -> Reached
+) -> Option<Way>
     requires fit { Fit (customers service.now ready.now due.now penalty.now flags.now) (matrix n distances.now times.now) }
     requires prev_lt_n { (way.prev < n) × Stops n stops.now }
     ensures { result ≡ reach_all (customers service.now ready.now due.now penalty.now flags.now)
         (matrix n distances.now times.now) stops.now way }
 {
     let mut at = way;
-    let mut i = 0;
-    while i < stops.len() {
-        let c = stops[i] as usize;
-        let next = reach(
-            at, c, n, distances, times, service, ready, due, penalty, flags,
-        );
-        let Reached::At(later) = next else {
-            return Reached::Late;
-        };
-        at = later;
-        i += 1;
+    for c in stops {
+        at = reach(
+            at,
+            *c as usize,
+            n,
+            distances,
+            times,
+            service,
+            ready,
+            due,
+            penalty,
+            flags,
+        )?;
     }
-    Reached::At(at)
+    Some(at)
 }
 
 // The return leg is added; then both limits are asked.
+#[tactic(auto, unfolding(crate::specs::Check::home_allowed))]
 pub fn home_allowed(
     way: Way,
     depot: usize,
@@ -144,13 +126,13 @@ pub fn home_allowed(
     requires prev_lt_n { (way.prev < n) × (depot < n) }
     ensures { result ≡ home_allowed (matrix n distances.now times.now) depot limits way }
 {
-    let prev = way.prev;
-    let distance = way.distance + get(distances, n, prev, depot);
-    let duration = way.time + travel_time(distances, times, n, prev, depot);
+    let distance = way.distance + get(distances, n, way.prev, depot);
+    let duration = way.time + travel_time(distances, times, n, way.prev, depot);
     limits.allow(distance, duration)
 }
 
 // Whether the route depot, stops, depot passes.
+#[tactic(auto, unfolding(crate::specs::Check::route_feasible))]
 pub fn route_feasible(
     route: &[u16],
     depot: usize,
@@ -169,8 +151,7 @@ pub fn route_feasible(
     ensures { result ≡ route_feasible (customers service.now ready.now due.now penalty.now flags.now)
         (matrix n distances.now times.now) depot limits route.now }
 {
-    let rest = limits.rest;
-    let Rest::Break(earliest, latest, duration) = rest else {
+    let Some(rest) = limits.rest else {
         let walked = reach_all(
             Way::new(depot),
             route,
@@ -183,23 +164,13 @@ pub fn route_feasible(
             penalty,
             flags,
         );
-        let Reached::At(way) = walked else {
+        let Some(way) = walked else {
             return false;
         };
         return home_allowed(way, depot, limits, n, distances, times);
     };
     let e = schedule(
-        route,
-        depot,
-        VehicleBreak::new(earliest, latest, duration),
-        n,
-        distances,
-        times,
-        service,
-        ready,
-        due,
-        penalty,
-        flags,
+        route, depot, rest, n, distances, times, service, ready, due, penalty, flags,
     );
     is_feasible(limited(e, limits))
 }

@@ -3,29 +3,24 @@
 ghost use Rattle.std.specs.Prelude.{◌≡◌};
 ghost use Rattle.evaluation.specs.Eval.{set_out, is_feasible, limited};
 
-use break_schedule::{Eval, Label, RouteLimits};
+use break_schedule::{Label, RouteEval, RouteLimits};
 
-// Whether there is an evaluation: `is_some`.
-pub fn is_feasible(e: Eval) -> bool
+// Whether there is an evaluation.
+pub fn is_feasible(e: Option<RouteEval>) -> bool
     ensures { result ≡ is_feasible e }
 {
-    match e {
-        Eval::Infeasible => false,
-        Eval::Feasible(_) => true,
-    }
+    e.is_some()
 }
 
 // An evaluation that keeps the limits.
-pub fn limited(e: Eval, limits: RouteLimits) -> Eval
+pub fn limited(e: Option<RouteEval>, limits: RouteLimits) -> Option<RouteEval>
     ensures { result ≡ limited limits e }
 {
-    let Eval::Feasible(x) = e else {
-        return Eval::Infeasible;
-    };
+    let x = e?;
     if limits.allow(x.distance, x.duration) {
-        Eval::Feasible(x)
+        e
     } else {
-        Eval::Infeasible
+        None
     }
 }
 
@@ -35,12 +30,6 @@ pub struct Walk {
     pub label: Label,
     pub distance: f64,
     pub prev: usize,
-}
-
-#[derive(Clone, Copy)]
-pub enum Walked {
-    Late,
-    At(Walk),
 }
 
 impl Walk {

@@ -7,8 +7,7 @@ pub mod eval;
 
 // Of the crates below, passed on to those above.
 pub use break_schedule::{
-    Customer, Eval, Penalty, Rest, Ridden, Riding, RouteEval, RouteLimits, Served, Taken, Vehicle,
-    VehicleBreak, Window, abs, customer_at, get, infinity, is_finite, largest, max, min,
-    penalty_at, ride_all, ride_home, scale, schedule as break_schedule_schedule, serve_at,
-    total_less, travel_time, window_at,
+    Customer, Label, Riding, RouteEval, RouteLimits, TimeWindow, Vehicle, VehicleBreak, abs,
+    customer_at, get, infinity, is_finite, largest, max, min, penalty_at, ride_all, ride_home,
+    scale, schedule as break_schedule_schedule, serve_at, total_less, travel_time, window_at,
 };

@@ -1,17 +1,18 @@
 -- On a valid problem every number of an evaluation is finite, has its sign clear and is no NaN, with bounds that are stated: with amounts of
 -- at most 2 ^ 40 and k stops served, a label's time is at most 4 k of them (travel, break, wait and service at each stop), its lateness at most
 -- 1028 k, and its lateness cost at most 1028 k times 2 ^ 80. So nothing overflows for 256 stops. Assumes nothing.
-use Prim.Native.Nat.{ℕ, zero, suc, ◌+◌, ◌*◌, ◌^◌, ◌≤◌, ◌<◌}
+use Rattle.std.specs.Prelude.{Option, Some, None}
+use Prim.Native.Nat.{ℕ, suc, ◌+◌, ◌*◌, ◌<◌}
 use native.Mathlib.Omega.{arith}
-use mathlib.Core.Path.{◌≡◌, refl, sym, ap, subst, ◌∙◌}
-use mathlib.Core.Bool.{Bool, true, false, cond, ◌||◌}
-use mathlib.Core.List.{List, [], ◌∷◌}
+use mathlib.Core.Path.{◌≡◌, refl, subst}
+use mathlib.Core.Bool.{true, false, ◌||◌}
+use mathlib.Core.List.{List}
 use mathlib.Core.Logic.{◌⊎◌, inl, inr}
 use lib.ListN.{length, get_or}
-use lib.Dec.{lit≤, eqb}
+use lib.Dec.{lit≤}
 use lib.Ieee.{Float, nan, lt, le, is_nan}
 use borrow.Author.Tests.{eq-eqb, ne_eqb}
-use Rattle.lateness_bound.specs.floats.Binary64.{◌⊕◌, ◌⊗◌, 0f, +∞, max}
+use Rattle.lateness_bound.specs.floats.Binary64.{◌⊕◌, max}
 use Rattle.lateness_bound.specs.floats.Order.{le_of_lt_true}
 use Rattle.lateness_bound.specs.floats.Upto.{Upto, upto_add, upto_sub, upto_mul, upto_more, upto_as, upto_zero, upto_max, upto_not_nan}
 use Rattle.lateness_bound.specs.floats.Difference.{upto_late}
@@ -22,43 +23,23 @@ use Rattle.lateness_bound.specs.laws.Loops.{loop, cond_rule, loop_rule, foldl_ru
 use Rattle.lateness_bound.specs.laws.Walks.{walk_count_rule}
 use Rattle.lateness_bound.specs.laws.Matrix.{in_matrix}
 use Rattle.lateness_bound.specs.models.declared.customer.TimeWindow.{TimeWindow}
-use Rattle.lateness_bound.specs.models.declared.customer.Window.{Window}
-use Rattle.lateness_bound.specs.models.declared.customer.Window.TheVariants.{None as NoWindow, Is as WindowIs}
-use Rattle.lateness_bound.specs.models.declared.customer.Penalty.{Penalty}
-use Rattle.lateness_bound.specs.models.declared.customer.Penalty.TheVariants.{None as NoPenalty, Of as PenaltyOf}
 use Rattle.lateness_bound.specs.models.declared.customer.Customer.{Customer}
-use Rattle.lateness_bound.specs.models.declared.vehicle.Rest.{Rest}
-use Rattle.lateness_bound.specs.models.declared.vehicle.Rest.TheVariants.{None as NoRest, Break}
 use Rattle.lateness_bound.specs.models.declared.vehicle.VehicleBreak.{VehicleBreak}
 use Rattle.lateness_bound.specs.models.declared.limits.RouteLimits.{RouteLimits}
 use Rattle.lateness_bound.specs.models.TimeWindow.{waiting_time, is_violated, lateness}
 use Rattle.lateness_bound.specs.models.Customer.{Customers, window_at, penalty_at, customer_at, windowed, penalised}
-use Rattle.lateness_bound.specs.models.Vehicle.{vehicle_break_new}
 use Rattle.lateness_bound.specs.models.RouteLimits.{allow}
 use Rattle.lateness_bound.specs.models.Problem.{DistanceMatrix, Problem, Fit, Stops}
 use Rattle.lateness_bound.specs.models.Valid.{valid}
 use Rattle.lateness_bound.specs.ModelsValidLaws.{Floats, valid_square, valid_service, valid_distances, valid_times, valid_window, valid_penalty}
 use Rattle.lateness_bound.specs.distance.Matrix.{get, travel_time, largest}
 use Rattle.lateness_bound.specs.break_clock.declared.route_eval.RouteEval.{RouteEval}
-use Rattle.lateness_bound.specs.break_clock.declared.route_eval.Eval.{Eval}
-use Rattle.lateness_bound.specs.break_clock.declared.route_eval.Eval.TheVariants.{Infeasible, Feasible}
 use Rattle.lateness_bound.specs.evaluation.declared.eval.Walk.{Walk}
-use Rattle.lateness_bound.specs.evaluation.declared.eval.Walked.{Walked}
-use Rattle.lateness_bound.specs.evaluation.declared.eval.Walked.TheVariants.{Late, At as WalkAt}
-use Rattle.lateness_bound.specs.labels.declared.Taken.{Taken}
-use Rattle.lateness_bound.specs.labels.declared.Taken.TheVariants.{No as NotTaken, At as TakenAt}
 use Rattle.lateness_bound.specs.labels.declared.Label.{Label}
-use Rattle.lateness_bound.specs.labels.declared.Served.{Served}
-use Rattle.lateness_bound.specs.labels.declared.Served.TheVariants.{Dead, Live}
 use Rattle.lateness_bound.specs.break_clock.declared.schedule.BreakClock.{BreakClock}
-use Rattle.lateness_bound.specs.break_clock.declared.schedule.Pushed.{Pushed}
-use Rattle.lateness_bound.specs.break_clock.declared.schedule.Pushed.TheVariants.{Stuck, On}
 use Rattle.lateness_bound.specs.break_clock.declared.schedule.Riding.{Riding}
-use Rattle.lateness_bound.specs.break_clock.declared.schedule.Ridden.{Ridden}
-use Rattle.lateness_bound.specs.break_clock.declared.schedule.Ridden.TheVariants.{Stuck as RideStuck, At as RideAt}
-use Rattle.lateness_bound.specs.labels.Labels.{START, in_time, too_late, at_window, serve_at, pausing, serve, served_from, sooner, earlier, lives}
-use Rattle.lateness_bound.specs.break_clock.Schedule.{clocked, push, ended, finish_after, finish_before, finish, set_out as ride-out, pushed, ride, onward as ride-onward, ride_all, ride_home, homeward as ride-homeward, schedule}
-use Rattle.lateness_bound.specs.break_clock.RouteEval.{priced_distance}
+use Rattle.lateness_bound.specs.labels.Labels.{START, too_late, at_window, serve_at, serve, served_from, sooner, earlier, lives}
+use Rattle.lateness_bound.specs.break_clock.Schedule.{push, ended, finish_after, finish_before, finish, set_out as ride-out, pushed, ride, onward as ride-onward, ride_all, ride_home, homeward as ride-homeward, schedule}
 use Rattle.lateness_bound.specs.evaluation.Eval.{limited, set_out, walked, drive, onward, drive_all, home, homeward, eval_with, route_eval, worth, effective_cost}
 use Rattle.lateness_bound.specs.evaluation.Check.{has_soft_windows}
 use Rattle.lateness_bound.specs.Bound.{with_window, with_penalty, later_window, dearer_penalty, latest_window, dearest_penalty, slowest, lateness_bound}
@@ -72,18 +53,18 @@ use Rattle.lateness_bound.specs.RouteWorthEvalLaws.{walked_cases}
 unit : {x : Float} → Amount x → Upto 40 1 x
 unit u = upto_as 40 1 u (lit≤ tt)
 
-abbrev WindowAmounts : Window → Type 0
-WindowAmounts NoWindow = Unit
-WindowAmounts (WindowIs w) = Amount w.ready × Amount w.due
+abbrev WindowAmounts : Option TimeWindow → Type 0
+WindowAmounts None = Unit
+WindowAmounts (Some w) = Amount w.ready × Amount w.due
 
-abbrev PenaltyAmount : Penalty → Type 0
-PenaltyAmount NoPenalty = Unit
-PenaltyAmount (PenaltyOf each) = Amount each
+abbrev PenaltyAmount : Option Float → Type 0
+PenaltyAmount None = Unit
+PenaltyAmount (Some each) = Amount each
 
 -- a break's three floats
-abbrev pub RestAmounts : Rest → Type 0
-RestAmounts NoRest = Unit
-RestAmounts (Break earliest latest duration) = Amount earliest × Amount latest × Amount duration
+abbrev pub RestAmounts : Option VehicleBreak → Type 0
+RestAmounts None = Unit
+RestAmounts (Some rest) = Amount rest.earliest × Amount rest.latest × Amount rest.duration
 
 record CustomerAmounts (c : Customer) : Type 0 where
   service : Amount c.service_duration
@@ -137,9 +118,9 @@ pub record Good (k : ℕ) (l : Label) : Type 0 where
   pub late : Upto 40 (1028 * k) l.lateness
   pub cost : Upto 80 (1028 * k) l.lateness_cost
 
-abbrev ServedGood : ℕ → Served → Type 0
-ServedGood k Dead = Unit
-ServedGood k (Live l) = Good k l
+abbrev ServedGood : ℕ → Option Label → Type 0
+ServedGood k None = Unit
+ServedGood k (Some l) = Good k l
 
 start_good : Good 0 START
 start_good = record { time = upto_zero 40 0; late = upto_zero 40 0; cost = upto_zero 80 0 }
@@ -148,23 +129,23 @@ waiting : (w : TimeWindow) (at : Float) (n : ℕ) → Amount w.ready → Upto 40
 waiting w at n r u =
     cond_rule (Upto 40 1) (lt at w.ready) (λ e. upto_sub (unit r) u (le_of_lt_true at w.ready e) (lit≤ tt) (lit≤ tt)) (λ _. upto_zero 40 1)
 
-module _ (k : ℕ) (few : k < 257) (l : Label) (g : Good k l) (ready : Float) (u : Upto 40 (4 * k + 2) ready) (taken : Taken) (c : Customer) (a : CustomerAmounts c) where
+module _ (k : ℕ) (few : k < 257) (l : Label) (g : Good k l) (ready : Float) (u : Upto 40 (4 * k + 2) ready) (taken : Option (ℕ × Float)) (c : Customer) (a : CustomerAmounts c) where
   -- in time, after a wait of up to `wait`
   kept : (time : Float) → Upto 40 (4 * suc k) time → Good (suc k) (record { time = time; lateness = l.lateness; lateness_cost = l.lateness_cost; rest = taken })
   kept time t = record { time = t; late = upto_more (1028 * suc k) g.late (omega arith); cost = upto_more (1028 * suc k) g.cost (omega arith) }
 
-  delayed : (time late : Float) → Upto 40 (4 * suc k) time → Upto 40 1028 late → (q : Penalty) → PenaltyAmount q → ServedGood (suc k) (too_late l time late taken q)
-  delayed time late t o NoPenalty p = tt
-  delayed time late t o (PenaltyOf each) p =
+  delayed : (time late : Float) → Upto 40 (4 * suc k) time → Upto 40 1028 late → (q : Option Float) → PenaltyAmount q → ServedGood (suc k) (too_late l time late taken q)
+  delayed time late t o None p = tt
+  delayed time late t o (Some each) p =
       record {
         time = t;
         late = upto_more (1028 * suc k) (upto_add g.late o (lit≤ tt) (omega arith)) (omega arith);
         cost = upto_more (1028 * suc k) (upto_add g.cost (upto_mul (unit p) o (lit≤ tt) (lit≤ tt)) (lit≤ tt) (omega arith)) (omega arith);
       }
 
-  at_good : (x : Window) → WindowAmounts x → ServedGood (suc k) (at_window l ready taken c x)
-  at_good NoWindow w = kept (ready ⊕ c.service_duration) (upto_more (4 * suc k) (upto_add u (unit a.service) (lit≤ tt) (omega arith)) (omega arith))
-  at_good (WindowIs w) (r, d) =
+  at_good : (x : Option TimeWindow) → WindowAmounts x → ServedGood (suc k) (at_window l ready taken c x)
+  at_good None w = kept (ready ⊕ c.service_duration) (upto_more (4 * suc k) (upto_add u (unit a.service) (lit≤ tt) (omega arith)) (omega arith))
+  at_good (Some w) (r, d) =
       let wait = waiting w ready (4 * k + 2) r u in
       let time = upto_more (4 * suc k) (upto_add (upto_add u wait (lit≤ tt) (omega arith)) (unit a.service) (lit≤ tt) (omega arith)) (omega arith) in
       let late = upto_more 1028 (upto_late u d (lit≤ tt) (omega arith)) (omega arith) in
@@ -183,9 +164,9 @@ record WalkGood (n k : ℕ) (w : Walk) : Type 0 where
   distance : Upto 40 k w.distance
   there : w.prev < n
 
-abbrev WalkedGood : ℕ → ℕ → Walked → Type 0
-WalkedGood n k Late = Unit
-WalkedGood n k (WalkAt w) = WalkGood n k w
+abbrev WalkedGood : ℕ → ℕ → Option Walk → Type 0
+WalkedGood n k None = Unit
+WalkedGood n k (Some w) = WalkGood n k w
 
 -- an evaluation of a route of k stops
 pub record Bounded (k : ℕ) (e : RouteEval) : Type 0 where
@@ -194,43 +175,43 @@ pub record Bounded (k : ℕ) (e : RouteEval) : Type 0 where
   pub lateness : Upto 40 (1028 * k) e.lateness
   pub cost : Upto 80 (1028 * k) e.lateness_cost
 
-abbrev EvalBounded : ℕ → Eval → Type 0
-EvalBounded k Infeasible = Unit
-EvalBounded k (Feasible e) = Bounded k e
+abbrev EvalBounded : ℕ → Option RouteEval → Type 0
+EvalBounded k None = Unit
+EvalBounded k (Some e) = Bounded k e
 
-ended_bounded : (k : ℕ) → k < 257 → (l : Label) → Good k l → (distance back : Float) → Upto 40 (k + 1) distance → Amount back → (taken : Taken)
+ended_bounded : (k : ℕ) → k < 257 → (l : Label) → Good k l → (distance back : Float) → Upto 40 (k + 1) distance → Amount back → (taken : Option (ℕ × Float))
     → EvalBounded k (ended l distance (l.time ⊕ back) taken)
 ended_bounded k few l g distance back u b taken =
     record { distance = u; duration = upto_add g.time (unit b) (lit≤ tt) (omega arith); lateness = g.late; cost = g.cost }
 
 module _ (cs : Customers) (m : DistanceMatrix) (a : Amounts cs m) where
-  walked_good : (k : ℕ) (c : ℕ) (d : Float) → c < m.size → Upto 40 (suc k) d → (s : Served) → ServedGood (suc k) s → WalkedGood m.size (suc k) (walked d c s)
-  walked_good k c d h u Dead g = tt
-  walked_good k c d h u (Live l) g = record { label = g; distance = u; there = h }
+  walked_good : (k : ℕ) (c : ℕ) (d : Float) → c < m.size → Upto 40 (suc k) d → (s : Option Label) → ServedGood (suc k) s → WalkedGood m.size (suc k) (walked d c s)
+  walked_good k c d h u None g = tt
+  walked_good k c d h u (Some l) g = record { label = g; distance = u; there = h }
 
   drive_good : (k : ℕ) (w : Walk) (c : ℕ) → k < 256 → c < m.size → WalkGood m.size k w → WalkedGood m.size (suc k) (drive cs m w c)
   unfolding drive
   drive_good k w c few h g =
       let d = upto_more (suc k) (upto_add g.distance (unit (a.distance w.prev c g.there h)) (lit≤ tt) (omega arith)) (omega arith) in
       let at = upto_more (4 * k + 2) (upto_add g.label.time (unit (a.travel w.prev c g.there h)) (lit≤ tt) (omega arith)) (omega arith) in
-      walked_good k c (w.distance ⊕ get m w.prev c) h d (serve_at w.label (w.label.time ⊕ travel_time m w.prev c) NotTaken (customer_at cs c))
-      (serve_at_good k (omega arith) w.label g.label (w.label.time ⊕ travel_time m w.prev c) at NotTaken (customer_at cs c) (customer cs m a c h))
+      walked_good k c (w.distance ⊕ get m w.prev c) h d (serve_at w.label (w.label.time ⊕ travel_time m w.prev c) None (customer_at cs c))
+      (serve_at_good k (omega arith) w.label g.label (w.label.time ⊕ travel_time m w.prev c) at None (customer_at cs c) (customer cs m a c h))
 
-  home_good : (k : ℕ) → k < 257 → (depot : ℕ) → depot < m.size → (limits : RouteLimits) (x : Walked) → WalkedGood m.size k x
+  home_good : (k : ℕ) → k < 257 → (depot : ℕ) → depot < m.size → (limits : RouteLimits) (x : Option Walk) → WalkedGood m.size k x
       → EvalBounded k (homeward m depot limits x)
   unfolding home
-  home_good k few depot h limits Late g = tt
-  home_good k few depot h limits (WalkAt w) g =
+  home_good k few depot h limits None g = tt
+  home_good k few depot h limits (Some w) g =
       cond_rule (EvalBounded k) (allow limits (w.distance ⊕ get m w.prev depot) (w.label.time ⊕ travel_time m w.prev depot))
       (λ _. ended_bounded k few w.label g.label (w.distance ⊕ get m w.prev depot) (travel_time m w.prev depot)
-      (upto_add g.distance (unit (a.distance w.prev depot g.there h)) (lit≤ tt) (omega arith)) (a.travel w.prev depot g.there h) NotTaken)
+      (upto_add g.distance (unit (a.distance w.prev depot g.there h)) (lit≤ tt) (omega arith)) (a.travel w.prev depot g.there h) None)
       (λ _. tt)
 
   plain_bounded : (depot : ℕ) → depot < m.size → (limits : RouteLimits) (route : List ℕ) → Stops m.size route
       → EvalBounded (length route) (homeward m depot limits (drive_all cs m route (set_out depot)))
   plain_bounded depot h limits route s =
       home_good (length route) (omega (arith, s.few)) depot h limits (drive_all cs m route (set_out depot))
-      (walk_count_rule WalkAt onward (drive cs m) Late (λ w f. refl) (λ f. refl) walked_cases (WalkedGood m.size) (λ c. c < m.size) 256 (λ k. tt)
+      (walk_count_rule Some onward (drive cs m) None (λ w f. refl) (λ f. refl) walked_cases (WalkedGood m.size) (λ c. c < m.size) 256 (λ k. tt)
       (λ k w c few h g. drive_good k w c few h g) route (set_out depot) (stops_all m.size route s) s.few
       (record { label = start_good; distance = upto_zero 40 0; there = h }))
 
@@ -242,30 +223,30 @@ record RideGood (n k : ℕ) (r : Riding) : Type 0 where
   distance : Upto 40 k r.distance
   there : r.clock.prev < n
 
-abbrev RiddenGood : ℕ → ℕ → Ridden → Type 0
-RiddenGood n k RideStuck = Unit
-RiddenGood n k (RideAt r) = RideGood n k r
+abbrev RiddenGood : ℕ → ℕ → Option Riding → Type 0
+RiddenGood n k None = Unit
+RiddenGood n k (Some r) = RideGood n k r
 
-served_good : (k : ℕ) → k < 256 → (s : Served) → ServedGood k s → (travel : Float) → Amount travel → (i : ℕ) (rest : Rest) → RestAmounts rest
+served_good : (k : ℕ) → k < 256 → (s : Option Label) → ServedGood k s → (travel : Float) → Amount travel → (i : ℕ) (rest : Option VehicleBreak) → RestAmounts rest
     → (c : Customer) → CustomerAmounts c → ServedGood (suc k) (served_from s travel i rest c)
 unfolding serve
-served_good k few Dead g travel t i rest r c a = tt
-served_good k few (Live l) g travel t i NoRest r c a =
+served_good k few None g travel t i rest r c a = tt
+served_good k few (Some l) g travel t i None r c a =
     serve_at_good k (omega arith) l g (l.time ⊕ travel) (upto_more (4 * k + 2) (upto_add g.time (unit t) (lit≤ tt) (omega arith)) (omega arith)) l.rest c a
-served_good k few (Live l) g travel t i (Break earliest latest duration) (e, f, d) c a =
-    let start = max (l.time ⊕ travel) earliest in
+served_good k few (Some l) g travel t i (Some rest) (e, f, d) c a =
+    let start = max (l.time ⊕ travel) rest.earliest in
     let begun = upto_max (upto_add g.time (unit t) (lit≤ tt) (omega arith)) (upto_more (4 * k + 1) (unit e) (omega arith)) in
-    cond_rule (ServedGood (suc k)) (lt latest start) (λ _. tt)
-    (λ _. serve_at_good k (omega arith) l g (start ⊕ duration) (upto_more (4 * k + 2) (upto_add begun (unit d) (lit≤ tt) (omega arith)) (omega arith)) (TakenAt i start) c a)
+    cond_rule (ServedGood (suc k)) (lt rest.latest start) (λ _. tt)
+    (λ _. serve_at_good k (omega arith) l g (start ⊕ rest.duration) (upto_more (4 * k + 2) (upto_add begun (unit d) (lit≤ tt) (omega arith)) (omega arith)) (Some (i, start)) c a)
 
-earlier_good : (k : ℕ) (x y : Served) → ServedGood k x → ServedGood k y → ServedGood k (earlier x y)
-earlier_good k Dead y g h = h
-earlier_good k (Live x) Dead g h = g
-earlier_good k (Live x) (Live y) g h = cond_rule (ServedGood k) (sooner y x) (λ _. h) (λ _. g)
+earlier_good : (k : ℕ) (x y : Option Label) → ServedGood k x → ServedGood k y → ServedGood k (earlier x y)
+earlier_good k None y g h = h
+earlier_good k (Some x) None g h = g
+earlier_good k (Some x) (Some y) g h = cond_rule (ServedGood k) (sooner y x) (λ _. h) (λ _. g)
 
-abbrev PushedGood : ℕ → ℕ → Pushed → Type 0
-PushedGood n k Stuck = Unit
-PushedGood n k (On c) = ServedGood k c.before × ServedGood k c.after × (c.prev < n)
+abbrev PushedGood : ℕ → ℕ → Option BreakClock → Type 0
+PushedGood n k None = Unit
+PushedGood n k (Some c) = ServedGood k c.before × ServedGood k c.after × (c.prev < n)
 
 module _ (cs : Customers) (m : DistanceMatrix) (a : Amounts cs m) (b : VehicleBreak) (r : Amount b.earliest × Amount b.latest × Amount b.duration) where
   push_good : (k : ℕ) (j : BreakClock) (c : ℕ) → k < 256 → c < m.size → ServedGood k j.before → ServedGood k j.after → j.prev < m.size
@@ -275,18 +256,18 @@ module _ (cs : Customers) (m : DistanceMatrix) (a : Amounts cs m) (b : VehicleBr
       let travel = travel_time m j.prev c in
       let t = a.travel j.prev c there h in
       let cu = customer_at cs c in
-      let on : (s : Served) (rest : Rest) → ServedGood k s → RestAmounts rest → ServedGood (suc k) (served_from s travel j.index rest cu) =
+      let on : (s : Option Label) (rest : Option VehicleBreak) → ServedGood k s → RestAmounts rest → ServedGood (suc k) (served_from s travel j.index rest cu) =
       λ s rest x y. served_good k few s x travel t j.index rest y cu (customer cs m a c h) in
-      let skipped = served_from j.before travel j.index NoRest cu in
-      let here = served_from j.before travel j.index (Break b.earliest b.latest b.duration) cu in
-      let carried = served_from j.after travel j.index NoRest cu in
+      let skipped = served_from j.before travel j.index None cu in
+      let here = served_from j.before travel j.index (Some b) cu in
+      let carried = served_from j.after travel j.index None cu in
       cond_rule (PushedGood m.size (suc k)) (lives skipped || lives (earlier carried here))
-      (λ _. (on j.before NoRest g tt, earlier_good (suc k) carried here (on j.after NoRest f tt) (on j.before (Break b.earliest b.latest b.duration) g r), h))
+      (λ _. (on j.before None g tt, earlier_good (suc k) carried here (on j.after None f tt) (on j.before (Some b) g r), h))
       (λ _. tt)
 
-  pushed_good : (k : ℕ) (d : Float) → Upto 40 (suc k) d → (x : Pushed) → PushedGood m.size (suc k) x → RiddenGood m.size (suc k) (pushed d x)
-  pushed_good k d u Stuck g = tt
-  pushed_good k d u (On c) (x, y, h) = record { before = x; after = y; distance = u; there = h }
+  pushed_good : (k : ℕ) (d : Float) → Upto 40 (suc k) d → (x : Option BreakClock) → PushedGood m.size (suc k) x → RiddenGood m.size (suc k) (pushed d x)
+  pushed_good k d u None g = tt
+  pushed_good k d u (Some c) (x, y, h) = record { before = x; after = y; distance = u; there = h }
 
   ride_good : (k : ℕ) (w : Riding) (c : ℕ) → k < 256 → c < m.size → RideGood m.size k w → RiddenGood m.size (suc k) (ride cs m b w c)
   unfolding ride
@@ -295,21 +276,21 @@ module _ (cs : Customers) (m : DistanceMatrix) (a : Amounts cs m) (b : VehicleBr
       (upto_more (suc k) (upto_add g.distance (unit (a.distance w.clock.prev c g.there h)) (lit≤ tt) (omega arith)) (omega arith))
       (push cs m b w.clock c) (push_good k w.clock c few h g.before g.after g.there)
 
-  after_good : (k : ℕ) → k < 257 → (s : Served) → ServedGood k s → (distance back : Float) → Upto 40 (k + 1) distance → Amount back
+  after_good : (k : ℕ) → k < 257 → (s : Option Label) → ServedGood k s → (distance back : Float) → Upto 40 (k + 1) distance → Amount back
       → EvalBounded k (finish_after s distance back)
-  after_good k few Dead g distance back u t = tt
-  after_good k few (Live l) g distance back u t = ended_bounded k few l g distance back u t l.rest
+  after_good k few None g distance back u t = tt
+  after_good k few (Some l) g distance back u t = ended_bounded k few l g distance back u t l.rest
 
-  before_good : (k : ℕ) → k < 257 → (s o : Served) → ServedGood k s → ServedGood k o → (distance back : Float) → Upto 40 (k + 1) distance → Amount back
+  before_good : (k : ℕ) → k < 257 → (s o : Option Label) → ServedGood k s → ServedGood k o → (distance back : Float) → Upto 40 (k + 1) distance → Amount back
       → EvalBounded k (finish_before s o b distance back)
-  before_good k few Dead o g h distance back u t = after_good k few o h distance back u t
-  before_good k few (Live l) o g h distance back u t =
-      cond_rule (EvalBounded k) (le (l.time ⊕ back) b.earliest) (λ _. ended_bounded k few l g distance back u t NotTaken) (λ _. after_good k few o h distance back u t)
+  before_good k few None o g h distance back u t = after_good k few o h distance back u t
+  before_good k few (Some l) o g h distance back u t =
+      cond_rule (EvalBounded k) (le (l.time ⊕ back) b.earliest) (λ _. ended_bounded k few l g distance back u t None) (λ _. after_good k few o h distance back u t)
 
-  ride_home_good : (k : ℕ) → k < 257 → (depot : ℕ) → depot < m.size → (x : Ridden) → RiddenGood m.size k x → EvalBounded k (ride-homeward m b depot x)
+  ride_home_good : (k : ℕ) → k < 257 → (depot : ℕ) → depot < m.size → (x : Option Riding) → RiddenGood m.size k x → EvalBounded k (ride-homeward m b depot x)
   unfolding ride_home finish
-  ride_home_good k few depot h RideStuck g = tt
-  ride_home_good k few depot h (RideAt w) g =
+  ride_home_good k few depot h None g = tt
+  ride_home_good k few depot h (Some w) g =
       before_good k few w.clock.before w.clock.after g.before g.after (w.distance ⊕ get m w.clock.prev depot) (travel_time m w.clock.prev depot)
       (upto_add g.distance (unit (a.distance w.clock.prev depot g.there h)) (lit≤ tt) (omega arith)) (a.travel w.clock.prev depot g.there h)
 
@@ -317,15 +298,15 @@ module _ (cs : Customers) (m : DistanceMatrix) (a : Amounts cs m) (b : VehicleBr
   unfolding schedule
   schedule_bounded depot h route s =
       ride_home_good (length route) (omega (arith, s.few)) depot h (ride_all cs m b route (ride-out depot))
-      (walk_count_rule RideAt ride-onward (ride cs m b) RideStuck (λ w f. refl) (λ f. refl) ridden_cases (RiddenGood m.size) (λ c. c < m.size) 256 (λ k. tt)
+      (walk_count_rule Some ride-onward (ride cs m b) None (λ w f. refl) (λ f. refl) ridden_cases (RiddenGood m.size) (λ c. c < m.size) 256 (λ k. tt)
       (λ k w c few h g. ride_good k w c few h g) route (ride-out depot) (stops_all m.size route s) s.few
       (record { before = start_good; after = tt; distance = upto_zero 40 0; there = h }))
 
 -- ---- the whole route
 
-limited_bounded : (k : ℕ) (limits : RouteLimits) (e : Eval) → EvalBounded k e → EvalBounded k (limited limits e)
-limited_bounded k limits Infeasible g = tt
-limited_bounded k limits (Feasible e) g = cond_rule (EvalBounded k) (allow limits e.distance e.duration) (λ _. g) (λ _. tt)
+limited_bounded : (k : ℕ) (limits : RouteLimits) (e : Option RouteEval) → EvalBounded k e → EvalBounded k (limited limits e)
+limited_bounded k limits None g = tt
+limited_bounded k limits (Some e) g = cond_rule (EvalBounded k) (allow limits e.distance e.duration) (λ _. g) (λ _. tt)
 
 module _ (cs : Customers) (m : DistanceMatrix) (a : Amounts cs m) (depot : ℕ) (h : depot < m.size) (limits : RouteLimits) (r : RestAmounts limits.rest)
     (route : List ℕ) (s : Stops m.size route) where
@@ -333,12 +314,12 @@ module _ (cs : Customers) (m : DistanceMatrix) (a : Amounts cs m) (depot : ℕ) 
   unfolding route_eval
   all_bounded = go limits.rest r
     where
-      go : (x : Rest) → RestAmounts x → EvalBounded (length route) (eval_with cs m depot limits route x)
-      go NoRest y = plain_bounded cs m a depot h limits route s
-      go (Break e l d) y = limited_bounded (length route) limits (schedule cs m depot (vehicle_break_new e l d) route) (schedule_bounded cs m a (vehicle_break_new e l d) y depot h route s)
+      go : (x : Option VehicleBreak) → RestAmounts x → EvalBounded (length route) (eval_with cs m depot limits route x)
+      go None y = plain_bounded cs m a depot h limits route s
+      go (Some rest) y = limited_bounded (length route) limits (schedule cs m depot rest route) (schedule_bounded cs m a rest y depot h route s)
 
   -- an evaluation's numbers are finite, with their bounds
-  pub eval_bounded : (e : RouteEval) → route_eval cs m depot limits route ≡ Feasible e → Bounded (length route) e
+  pub eval_bounded : (e : RouteEval) → route_eval cs m depot limits route ≡ Some e → Bounded (length route) e
   eval_bounded e x = subst (EvalBounded (length route)) x all_bounded
 
   -- what a route is worth is +∞ or finite, and never a NaN
@@ -346,9 +327,9 @@ module _ (cs : Customers) (m : DistanceMatrix) (a : Amounts cs m) (depot : ℕ) 
   unfolding effective_cost is_nan
   cost_not_nan = go (route_eval cs m depot limits route) all_bounded
     where
-      go : (e : Eval) → EvalBounded (length route) e → is_nan (worth e) ≡ false
-      go Infeasible g = refl
-      go (Feasible e) g =
+      go : (e : Option RouteEval) → EvalBounded (length route) e → is_nan (worth e) ≡ false
+      go None g = refl
+      go (Some e) g =
           let d = upto_as 80 (length route + 1) g.distance (omega arith) in
           upto_not_nan (upto_add d g.cost (lit≤ tt) (omega (arith, s.few)))
 
@@ -361,13 +342,13 @@ pub largest_bounded : (xs : List Float) → ((k : ℕ) → k < length xs → Amo
 unfolding largest
 largest_bounded xs f = foldl_rule (Upto 40 1) (Upto 40 1) max (λ t x q p. upto_max p q) (all_amounts xs f) (upto_zero 40 1)
 
-with_window_bounded : (most : Float) (w : Window) → Upto 40 1 most → WindowAmounts w → Upto 40 1 (with_window most w)
-with_window_bounded most NoWindow u a = u
-with_window_bounded most (WindowIs w) u (r, d) = upto_max u (upto_max (unit r) (unit d))
+with_window_bounded : (most : Float) (w : Option TimeWindow) → Upto 40 1 most → WindowAmounts w → Upto 40 1 (with_window most w)
+with_window_bounded most None u a = u
+with_window_bounded most (Some w) u (r, d) = upto_max u (upto_max (unit r) (unit d))
 
-with_penalty_bounded : (most : Float) (q : Penalty) → Upto 40 1 most → PenaltyAmount q → Upto 40 1 (with_penalty most q)
-with_penalty_bounded most NoPenalty u a = u
-with_penalty_bounded most (PenaltyOf each) u a = upto_max u (unit a)
+with_penalty_bounded : (most : Float) (q : Option Float) → Upto 40 1 most → PenaltyAmount q → Upto 40 1 (with_penalty most q)
+with_penalty_bounded most None u a = u
+with_penalty_bounded most (Some each) u a = upto_max u (unit a)
 
 module _ (cs : Customers) (m : DistanceMatrix) (a : Amounts cs m) (f : Fit cs m) where
   place_in : (c : ℕ) → c < length cs.flags → c < m.size

@@ -5,7 +5,7 @@ use native.Mathlib.Omega.{arith}
 use mathlib.Core.Path.{◌≡◌, refl, sym, ap, subst, ◌∙◌}
 use mathlib.Core.Bool.{Bool, true, false}
 use mathlib.Core.List.{List, [], ◌∷◌, ◌++◌, reverse}
-use mathlib.Core.Option.{Option, none, some}
+use Rattle.std.proofs.Common.{Option, None, Some, Ok, Err}
 use borrow.Author.Tests.{eq-eqb, ne_eqb}
 use lib.ListN.{length, get_or, set, length-append, length-reverse}
 use lib.Dec.{eqb}
@@ -15,22 +15,16 @@ use Rattle.cheapest_insertion.specs.models.Problem.{Problem, Stops}
 use Rattle.cheapest_insertion.specs.plan.Plan.{Plan, Holds, Lent, HasPosition, split, flat, total, route, occurs, put_in}
 use Rattle.cheapest_insertion.specs.plan.Slices.{total_lengths, lengths_split}
 use Rattle.cheapest_insertion.specs.route_cost.declared.Insertion.{Insertion}
-use Rattle.cheapest_insertion.specs.route_cost.declared.Best.{Best}
-use Rattle.cheapest_insertion.specs.route_cost.declared.Best.TheVariants.{Nothing, At}
 use Rattle.cheapest_insertion.specs.local_search.declared.rounds.Counts.{Counts}
 use Rattle.cheapest_insertion.specs.local_search.Options.{Each, each_found}
-use Rattle.cheapest_insertion.specs.route_cost.Route.{chosen}
 use Rattle.cheapest_insertion.specs.local_search.Planned.{Planned, planned_stops}
 use Rattle.cheapest_insertion.specs.insertion.Cheapest.{cheapest}
 use Rattle.cheapest_insertion.specs.insertion.Inserted.{Inserts, cheapest_found}
 use Rattle.made_room.specs.ejection.declared.Ejection.{Ejection}
-use Rattle.made_room.specs.ejection.declared.Best.{Best as Ejected}
-use Rattle.made_room.specs.ejection.declared.Best.TheVariants.{Nothing as NoEjection, At as EjectionAt}
-use Rattle.made_room.specs.ejection.Eject.{eject, ejected, make_room, gone, chosen as ejection-chosen}
+use Rattle.made_room.specs.ejection.Eject.{eject, ejected, make_room, gone}
 use Rattle.made_room.specs.ejection.Ejected.{Inside, Ejects, eject_found}
 use Rattle.made_room.specs.ejection_made.Made.{stack, Made}
 use Rattle.made_room.specs.perturbation.Perturb.{Drawn, perturb}
-use Rattle.forced_insertion.specs.declared.Turn.TheVariants.{Stuck, More}
 use Rattle.ejection_pool.specs.Pool.{after_eject}
 use Rattle.ejection_pool.proofs.Placing.{Placing, eject_keeps}
 use Rattle.ejection_pool.specs.Running.{Forcing, is_there, put_best, one_more}
@@ -38,13 +32,13 @@ use Rattle.forced_insertion.specs.Turned.{as_turn}
 
 -- ---- the cheapest place
 
-module _ (p : Problem) (routes : Plan) (c : ℕ) (best : Best) (e : chosen best ≡ cheapest p routes c) where
-  pub nowhere : best ≡ Nothing → false ≡ is_there (cheapest p routes c)
+module _ (p : Problem) (routes : Plan) (c : ℕ) (best : Option Insertion) (e : best ≡ cheapest p routes c) where
+  pub nowhere : best ≡ None → false ≡ is_there (cheapest p routes c)
   nowhere n = rw (← e, n)
 
-  module _ (x : Insertion) (h : best ≡ At x) where
-    there : cheapest p routes c ≡ some x
-    there = sym e ∙ ap chosen h
+  module _ (x : Insertion) (h : best ≡ Some x) where
+    there : cheapest p routes c ≡ Some x
+    there = sym e ∙ h
 
     pub somewhere : true ≡ is_there (cheapest p routes c)
     somewhere = rw there
@@ -58,7 +52,7 @@ module _ (p : Problem) (routes : Plan) (c : ℕ) (best : Best) (e : chosen best 
         → Holds (put_best c (cheapest p routes c) routes) (n + one_more true) ls s
     somewhere_put n ls s g = rw there g
 
-pub nowhere_put : (p : Problem) (c : ℕ) (ls s : List ℕ) (best : Best) → chosen best ≡ cheapest p (split ls s) c → best ≡ Nothing
+pub nowhere_put : (p : Problem) (c : ℕ) (ls s : List ℕ) (best : Option Insertion) → best ≡ cheapest p (split ls s) c → best ≡ None
     → Holds (put_best c (cheapest p (split ls s) c) (split ls s)) (total ls + one_more false) ls s
 nowhere_put p c ls s best e h = record { routes = rw (← e, h); sum = omega arith }
 
@@ -82,9 +76,9 @@ Any r = Unit
 pub held_number : (ls s : List ℕ) → Lent ls s → total ls ≡ length (flat (split ls s))
 held_number ls s l = ap total (sym (lengths_split ls s l.inside)) ∙ total_lengths (split ls s)
 
-module _ (p : Problem) (c : ℕ) (failures ls s : List ℕ) (best : Ejected) (h : ejection-chosen best ≡ eject p (split ls s) c failures) (e : Ejection) (b : best ≡ EjectionAt e) where
-  leaves : eject p (split ls s) c failures ≡ some e
-  leaves = sym h ∙ ap ejection-chosen b
+module _ (p : Problem) (c : ℕ) (failures ls s : List ℕ) (best : Option Ejection) (h : best ≡ eject p (split ls s) c failures) (e : Ejection) (b : best ≡ Some e) where
+  leaves : eject p (split ls s) c failures ≡ Some e
+  leaves = sym h ∙ b
 
   found : Ejects p (split ls s) c e
   found = each_found (Ejects p (split ls s) c) (eject p (split ls s) c failures) leaves (eject_found p (split ls s) c failures)
@@ -119,7 +113,7 @@ module _ (p : Problem) (c : ℕ) (failures ls s : List ℕ) (best : Ejected) (h 
     pub forced : (tape : List ℕ) (counts : Counts) (d t : ℕ) (u v : List ℕ)
         → Holds (perturb p tape (record { routes = split ls' s'; draws = counts.draws })).routes t u v
         → d ≡ (perturb p tape (record { routes = split ls' s'; draws = counts.draws })).draws
-        → as_turn (More m (record { steps = counts.steps + 1; draws = d })) (split u v) pool' failures
+        → as_turn (Ok (m, record { steps = counts.steps + 1; draws = d })) (split u v) pool' failures
         ≡ after_eject tape p (split ls s) counts c (stack pool count) failures (eject p (split ls s) c failures)
     unfolding after_eject
     forced tape counts d t u v q ed = rw (leaves, q.routes, ed, g.plan, g.top)
@@ -127,9 +121,9 @@ module _ (p : Problem) (c : ℕ) (failures ls s : List ℕ) (best : Ejected) (h 
     pub forced_lent : (t : ℕ) (plan : Plan) (u v : List ℕ) → Lent ls s → length s' ≡ length s → length v ≡ length s' → t ≡ total ls' → Holds plan t u v → Lent u v
     forced_lent t plan u v l q r et x = record { inside = omega (arith, x.sum, fewer, l.inside); few = omega (arith, l.few) }
 
-pub stuck : (p : Problem) (routes : Plan) (c : ℕ) (failures rest tape pool : List ℕ) (plan : Plan) (counts : Counts) (best : Ejected)
-    → ejection-chosen best ≡ eject p routes c failures → best ≡ NoEjection
-    → as_turn (Stuck (record { steps = counts.steps + 1; draws = counts.draws })) plan pool failures
+pub stuck : (p : Problem) (routes : Plan) (c : ℕ) (failures rest tape pool : List ℕ) (plan : Plan) (counts : Counts) (best : Option Ejection)
+    → best ≡ eject p routes c failures → best ≡ None
+    → as_turn (Err (record { steps = counts.steps + 1; draws = counts.draws })) plan pool failures
     ≡ after_eject tape p routes counts c rest failures (eject p routes c failures)
 unfolding after_eject
 stuck p routes c failures rest tape pool plan counts best h b = rw (← h, b)

@@ -15,18 +15,11 @@ ghost use Rattle.ejection_pool.specs.Pool.{after_eject};
 ghost use Rattle.ejection_pool.specs.Running.{Forcing, is_there, put_best, one_more};
 ghost use Rattle.forced_insertion.specs.Turned.{as_turn};
 
-use cheapest_insertion::{RouteCostBest as Best, cheapest};
-use made_room::{EjectionBest as Ejected, eject, make_room, perturb};
+use cheapest_insertion::cheapest;
+use made_room::{eject, make_room, perturb};
 
 // Of the crates below, passed on to those above.
 pub use cheapest_insertion::{Counts, Vehicle};
-
-// How a turn ends: no ejection works; or the number in the pool. With the counts of the call so far.
-#[derive(Clone, Copy)]
-pub enum Turn {
-    Stuck(Counts),
-    More(usize, Counts),
-}
 
 // The stop c goes to its cheapest place, if it has one.
 pub fn place(
@@ -58,14 +51,15 @@ pub fn place(
         cells, lengths, stops, c as usize, needed, vehicle, demand, n, distances, times, service,
         ready, due, penalty, flags,
     );
-    let Best::At(x) = best else {
+    let Some(x) = best else {
         return false;
     };
     cheapest_insertion::put_in(lengths, stops, x.route, x.pos, c);
     true
 }
 
-// The stop c goes in for others: the best ejection is made, and the plan perturbed.
+// The stop c goes in for others: the best ejection is made, and the plan perturbed. Returns the number in the pool, or an error where no ejection works;
+// either with the counts of the call so far.
 pub fn force(
     lengths: &mut [u16],
     stops: &mut [u16],
@@ -88,7 +82,7 @@ pub fn force(
     due: &[f64],
     penalty: &[f64],
     flags: &[u8],
-) -> Turn
+) -> Result<(usize, Counts), Counts>
     requires { Forcing (problem n demand.now service.now ready.now due.now penalty.now flags.now distances.now times.now vehicle) tape.now needed
         lengths.old stops.old pool.old work.old failures.now cells.old count c counts }
     ensures plan { as_turn result (split lengths.new stops.new) pool.new failures.now
@@ -103,9 +97,9 @@ pub fn force(
         times, service, ready, due, penalty, flags,
     );
     let steps = counts.steps + 1;
-    let Ejected::At(e) = found else {
-        return Turn::Stuck(Counts {
-            steps: steps,
+    let Some(e) = found else {
+        return Err(Counts {
+            steps,
             draws: counts.draws,
         });
     };
@@ -128,11 +122,5 @@ pub fn force(
         penalty,
         flags,
     );
-    Turn::More(
-        m,
-        Counts {
-            steps: steps,
-            draws: draws,
-        },
-    )
+    Ok((m, Counts { steps, draws }))
 }

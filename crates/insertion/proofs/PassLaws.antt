@@ -26,9 +26,9 @@ module _ (p : Problem) (r : List ℕ) (t : Times) (pos c : ℕ) (needed : Bool) 
   pass_unneeded f = rw (← e, f)
 
   module _ (k : needed ≡ true) (v : Bool) (ev : v ≡ may_fit p.places p.roads (depot p) r t.departures t.latest pos c) where
-    pub pass_late : v ≡ false → false ≡ may_pass p r t pos c
+    pub pass_late : v ≡ false → v ≡ may_pass p r t pos c
     unfolding may_pass
-    pass_late f = rw (← e, k, ← ev, f)
+    pass_late f = f ∙ rw (← e, k, ← ev, f)
 
     pub pass_checked : (w : Bool) → v ≡ true → w ≡ checked p (insert_at pos c r) → w ≡ may_pass p r t pos c
     unfolding may_pass

@@ -1,23 +1,17 @@
 -- Laws of specs/Pass on the positions of one route, each from the facts that the code has where it needs it. Assumes nothing.
 use Prim.Native.Nat.{ℕ}
 use mathlib.Core.Path.{◌≡◌}
-use mathlib.Core.Bool.{Bool, true, false, not}
+use mathlib.Core.Bool.{Bool, true, false}
 use mathlib.Core.List.{List}
-use mathlib.Core.Option.{Option, some}
-use lib.Ieee.{Float, le}
-use borrow.Author.Rules.{rules}
+use Rattle.std.proofs.Common.{Option, Some}
+use lib.Ieee.{Float}
 use Rattle.route_times.specs.models.Problem.{Problem, depot}
 use Rattle.route_times.specs.route_cost.declared.Insertion.{Insertion}
-use Rattle.route_times.specs.route_cost.declared.Best.{Best}
-use Rattle.route_times.specs.route_cost.declared.Best.TheVariants.{At}
-use Rattle.route_times.specs.route_cost.Route.{insertion_cost, chosen}
+use Rattle.route_times.specs.route_cost.Route.{insertion_cost}
 use Rattle.route_times.specs.LocalSearchReadLaws.{insertion_any}
 use Rattle.route_times.specs.quick_test.Quick.{Times}
 use Rattle.insertion.specs.Cheapest.{cheaper}
 use Rattle.insertion.specs.Pass.{may_pass, pass_position}
-
-pub cheaper_than : (x : Float) (best : Best) (found : Insertion) → best ≡ At found → not (le found.cost x) ≡ cheaper x (chosen best)
-cheaper_than x best found e = rw e
 
 -- ---- one position: it costs too much; c may not go in; it may
 
@@ -32,7 +26,7 @@ module _ (p : Problem) (c k : ℕ) (r : List ℕ) (t : Times) (pos : ℕ) (best 
     unfolding pass_position
     position_refused f = rw (← ex, ← ev, h, ← ew, f)
 
-    pub position_taken : w ≡ true → some (record { cost = x; route = k; pos = pos }) ≡ pass_position p c k r t pos best
+    pub position_taken : w ≡ true → Some (record { cost = x; route = k; pos = pos }) ≡ pass_position p c k r t pos best
     unfolding pass_position
     position_taken f = rw (← ex, ← ev, h, ← ew, f)
 

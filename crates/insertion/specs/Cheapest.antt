@@ -1,6 +1,6 @@
 -- The cheapest place for a stop (route_minimization.rs, `Pool::cheapest`). Assumes nothing.
 use Rattle.std.specs.Prelude.{ℕ, suc, List, Bool, true, cond, not, ◌&&◌, ◌||◌, length, Float}
-use Rattle.std.proofs.Math.Option.{Option, none, some}
+use Rattle.std.specs.Prelude.{Option, None, Some}
 use Rattle.std.specs.Float.Ieee.{le}
 use Rattle.route_times.specs.laws.Edits.{insert_at}
 use Rattle.route_times.specs.laws.Loops.{loop}
@@ -18,19 +18,19 @@ may_go_in p r t pos c =
 
 -- "strict improvement only": not `cost >= b`
 abbrev pub cheaper : Float → Option Insertion → Bool
-cheaper x none = true
-cheaper x (some best) = not (le best.cost x)
+cheaper x None = true
+cheaper x (Some best) = not (le best.cost x)
 
 -- a turn of the loop over positions
 unfoldable pub try_position : Problem → ℕ → ℕ → List ℕ → Times → ℕ → Option Insertion → Option Insertion
 try_position p c k r t pos best =
     let x = insertion_cost p.roads (depot p) r pos c in
-    cond (cheaper x best) (cond (may_go_in p r t pos c) (some (record { cost = x; route = k; pos = pos })) best) best
+    cond (cheaper x best) (cond (may_go_in p r t pos c) (Some (record { cost = x; route = k; pos = pos })) best) best
 
 -- the loop over positions, where the route is not passed over
 unfoldable pub try_positions : Problem → ℕ → ℕ → List ℕ → Option Times → Option Insertion → Option Insertion
-try_positions p c k r none best = best
-try_positions p c k r (some t) best = loop (suc (length r)) (try_position p c k r t) best
+try_positions p c k r None best = best
+try_positions p c k r (Some t) best = loop (suc (length r)) (try_position p c k r t) best
 
 -- a turn of the loop over routes: "after the load test"
 unfoldable pub try_route : Problem → ℕ → ℕ → List ℕ → Option Insertion → Option Insertion
@@ -38,4 +38,4 @@ try_route p c k r best = cond (has_room p r c) (try_positions p c k r (times p r
 
 -- Pool::cheapest: "over routes, then positions"
 unfoldable pub cheapest : Problem → Plan → ℕ → Option Insertion
-cheapest p routes c = loop (length routes) (λ k. try_route p c k (route k routes)) none
+cheapest p routes c = loop (length routes) (λ k. try_route p c k (route k routes)) None

@@ -1,6 +1,6 @@
 -- What the search for the cheapest place finds lies in the plan, and the route that it makes is feasible. Assumes nothing.
 use Rattle.std.specs.Prelude.{ℕ, zero, suc, ◌≤◌, ◌<◌, ◌≡◌, refl, true, not, ◌||◌, List, [], ◌∷◌, length}
-use Rattle.std.proofs.Math.Option.{Option, none, some}
+use Rattle.std.specs.Prelude.{Option, None, Some}
 use Rattle.std.proofs.Common.{arith}
 use Rattle.route_times.specs.laws.Edits.{insert_at}
 use Rattle.route_times.specs.laws.Loops.{cond_rule, loop_rule}
@@ -39,8 +39,8 @@ module _ (p : Problem) (routes : Plan) (c : ℕ) where
 
   positions_found : (k : ℕ) → k < length routes → (o : Option Times) (best : Option Insertion) → Best best → Best (try_positions p c k (route k routes) o best)
   unfolding try_positions try_position
-  positions_found k k-in none best h = h
-  positions_found k k-in (some t) best h =
+  positions_found k k-in None best h = h
+  positions_found k k-in (Some t) best h =
       let r = route k routes in
       loop_rule (λ _. Best) (suc (length r)) (try_position p c k r t) (λ pos best pos-in h.
       cond_rule Best (cheaper (insertion_cost p.roads (depot p) r pos c) best)

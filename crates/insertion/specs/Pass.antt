@@ -1,7 +1,7 @@
 -- The tests of a position, the load aside: the load test is made once for a route, before its positions. Assumes nothing.
 use Rattle.std.specs.Prelude.{ℕ, ◌≡◌, refl, Bool, true, false, cond, not, ◌&&◌, ◌||◌, List, [], ℤ, Float}
 use Rattle.std.proofs.Common.{ap}
-use Rattle.std.proofs.Math.Option.{Option, some}
+use Rattle.std.specs.Prelude.{Option, Some}
 use Rattle.route_times.specs.laws.Edits.{insert_at}
 use Rattle.route_times.specs.models.declared.vehicle.Vehicle.{Vehicle}
 use Rattle.route_times.specs.models.Problem.{Problem, problem, depot}
@@ -44,7 +44,7 @@ may_go_in_untimed p r t u pos c e = rw e
 unfoldable pub pass_position : Problem → ℕ → ℕ → List ℕ → Times → ℕ → Option Insertion → Option Insertion
 pass_position p c k r t pos best =
     let x = insertion_cost p.roads (depot p) r pos c in
-    cond (cheaper x best) (cond (may_pass p r t pos c) (some (record { cost = x; route = k; pos = pos })) best) best
+    cond (cheaper x best) (cond (may_pass p r t pos c) (Some (record { cost = x; route = k; pos = pos })) best) best
 
 pub pass_position_room : (p : Problem) (c k : ℕ) (r : List ℕ) (t : Times) (pos : ℕ) (best : Option Insertion) → has_room p r c ≡ true
     → pass_position p c k r t pos best ≡ try_position p c k r t pos best

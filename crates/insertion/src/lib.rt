@@ -7,19 +7,18 @@ ghost use Rattle.route_times.specs.models.Customer.{customers};
 ghost use Rattle.route_times.specs.models.RouteLimits.{limits_of};
 ghost use Rattle.route_times.specs.models.Problem.{matrix, problem, Fit, Stops};
 ghost use Rattle.route_times.specs.evaluation.Check.{route_checks_needed};
-ghost use Rattle.route_times.specs.route_cost.Route.{chosen};
 ghost use Rattle.route_times.specs.quick_test.Quick.{may_fit};
 ghost use Rattle.route_times.specs.Prepared.{held};
 ghost use Rattle.insertion.specs.Cheapest.{cheaper};
 ghost use Rattle.insertion.specs.Pass.{may_pass, pass_position};
 
-use route_times::{Insertion, RouteCostBest as Best, may_fit, trial_ok};
+use route_times::{may_fit, trial_ok};
 
 // Of the crates below, passed on to those above.
 pub use route_times::{
-    Counts, LocalSearchNext, Pick, Reduction, RouteCostBest, Vehicle, checked, constrained,
-    copy_part, feasible, has_room, insertion_cost, next_pick, offset, prepare, put_in, rounds,
-    take_out, within_capacity,
+    Counts, Insertion, LocalSearchNext, Pick, Reduction, Vehicle, checked, constrained, copy_part,
+    feasible, has_room, insertion_cost, next_pick, offset, prepare, put_in, rounds, take_out,
+    within_capacity,
 };
 
 // The quick test by the departures and latest arrivals in the work cells.
@@ -86,41 +85,34 @@ pub fn may_pass(
     ensures { result ≡ may_pass (problem n [] service.now ready.now due.now penalty.now flags.now
         distances.now times.now vehicle) route.now (held (length route.now) cells.now) pos c }
 {
-    if needed {
-        let fits = quick(
-            route,
-            cells,
-            pos,
-            c,
-            vehicle.depot_id,
-            n,
-            distances,
-            times,
-            service,
-            ready,
-            due,
-            penalty,
-            flags,
-        );
-        if fits {
-            return trial_ok(
-                route, pos, c, needed, vehicle, n, distances, times, service, ready, due, penalty,
-                flags,
-            );
-        }
-        return false;
+    if !needed {
+        return true;
     }
-    true
+    let fits = quick(
+        route,
+        cells,
+        pos,
+        c,
+        vehicle.depot_id,
+        n,
+        distances,
+        times,
+        service,
+        ready,
+        due,
+        penalty,
+        flags,
+    );
+    fits && trial_ok(
+        route, pos, c, needed, vehicle, n, distances, times, service, ready, due, penalty, flags,
+    )
 }
 
 // Whether a cost is less than the best so far. An equal one is not, so the first found among equals stays.
-fn cheaper(cost: f64, best: Best) -> bool
-    ensures { result ≡ cheaper cost (chosen best) }
+fn cheaper(cost: f64, best: Option<Insertion>) -> bool
+    ensures { result ≡ cheaper cost best }
 {
-    let Best::At(found) = best else {
-        return true;
-    };
-    !(cost >= found.cost)
+    best.is_none_or(|found| !(cost >= found.cost))
 }
 
 // One position of route k, which has room for c: the better of what it gives and the best so far.
@@ -130,7 +122,7 @@ pub fn try_position(
     pos: usize,
     c: usize,
     k: usize,
-    best: Best,
+    best: Option<Insertion>,
     needed: bool,
     vehicle: Vehicle,
     n: usize,
@@ -141,26 +133,26 @@ pub fn try_position(
     due: &[f64],
     penalty: &[f64],
     flags: &[u8],
-) -> Best
+) -> Option<Insertion>
     requires fit { Fit (customers service.now ready.now due.now penalty.now flags.now) (matrix n distances.now times.now) }
     requires depot_id_bound { (vehicle.depot_id < n) × (c < n) × (pos ≤ length route.now) × Stops n route.now × (512 ≤ length cells.now)
         × (needed ≡ route_checks_needed flags.now (limits_of vehicle)) }
-    ensures { chosen result ≡ pass_position (problem n [] service.now ready.now due.now penalty.now flags.now
-        distances.now times.now vehicle) c k route.now (held (length route.now) cells.now) pos (chosen best) }
+    ensures { result ≡ pass_position (problem n [] service.now ready.now due.now penalty.now flags.now
+        distances.now times.now vehicle) c k route.now (held (length route.now) cells.now) pos best }
 {
     let cost = insertion_cost(route, pos, c, vehicle.depot_id, n, distances);
-    if cheaper(cost, best) {
-        if may_pass(
+    if cheaper(cost, best)
+        && may_pass(
             route, cells, pos, c, needed, vehicle, n, distances, times, service, ready, due,
             penalty, flags,
-        ) {
-            return Best::At(Insertion {
-                cost: cost,
-                route: k,
-                pos: pos,
-            });
-        }
-        return best;
+        )
+    {
+        Some(Insertion {
+            cost: cost,
+            route: k,
+            pos: pos,
+        })
+    } else {
+        best
     }
-    best
 }

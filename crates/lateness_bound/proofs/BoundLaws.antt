@@ -1,37 +1,22 @@
 -- Laws of specs/Bound, each from the facts that the code has where it needs it. Assumes nothing.
-use Prim.Native.Nat.{ℕ, zero, suc, ◌+◌, ◌*◌, ◌^◌, ◌<◌, ◌≤◌}
+use Rattle.std.specs.Prelude.{Option}
+use Prim.Native.Nat.{ℕ, zero, suc, ◌+◌, ◌*◌, ◌<◌, ◌≤◌}
 use native.Mathlib.Nat.{suc-mul, zero-mul}
 use native.Mathlib.Omega.{arith}
-use mathlib.Core.Path.{◌≡◌, refl, sym, ap, subst, ◌∙◌}
-use mathlib.Core.Bool.{Bool, true, false}
+use mathlib.Core.Path.{◌≡◌, refl, sym, ap, ◌∙◌}
 use mathlib.Core.List.{List, [], ◌∷◌, ◌++◌}
 use mathlib.Core.Logic.{⊎_elim}
 use lib.ListN.{length, get_or, take}
 use lib.Seq.{take-suc, take-length}
-use lib.Dec.{T}
-use lib.IntN.{pos}
-use lib.Ieee.{Float, nan, binary64, of_int, in_float}
-use borrow.Author.Tests.{eq-eqb, ne_eqb, le-leb}
-use Rattle.route_worth.specs.floats.Binary64.{◌⊕◌, ◌⊗◌, 0f, max}
+use lib.Ieee.{Float, nan}
+use borrow.Author.Tests.{eq-eqb, ne_eqb}
+use Rattle.route_worth.specs.floats.Binary64.{0f, max}
 use Rattle.route_worth.specs.laws.Loops.{loop, foldl, loop_more}
 use Rattle.route_worth.specs.models.declared.customer.TimeWindow.{TimeWindow}
-use Rattle.route_worth.specs.models.declared.customer.Window.{Window}
-use Rattle.route_worth.specs.models.declared.customer.Window.TheVariants.{Is as WindowIs}
-use Rattle.route_worth.specs.models.declared.customer.Penalty.{Penalty}
-use Rattle.route_worth.specs.models.declared.customer.Penalty.TheVariants.{Of as PenaltyOf}
-use Rattle.route_worth.specs.models.Customer.{customers, window_at, penalty_at}
+use Rattle.route_worth.specs.models.Customer.{window_at, penalty_at}
 use Rattle.route_worth.specs.models.Problem.{matrix, Square}
 use Rattle.route_worth.specs.distance.Matrix.{largest}
-use Rattle.route_worth.specs.evaluation.Check.{has_soft_windows}
-use Rattle.lateness_bound.specs.Bound.{with_window, with_penalty, later_window, dearer_penalty, latest_window, dearest_penalty, slowest, lateness_bound}
-
--- ---- one place
-
-pub window_is : (most inner v : Float) (x : Window) (w : TimeWindow) → x ≡ WindowIs w → inner ≡ max w.ready w.due → v ≡ max most inner → v ≡ with_window most x
-window_is most inner v x w e ei ev = ev ∙ ap (max most) ei ∙ sym (ap (with_window most) e)
-
-pub penalty_is : (most each v : Float) (x : Penalty) → x ≡ PenaltyOf each → v ≡ max most each → v ≡ with_penalty most x
-penalty_is most each v x e ev = ev ∙ sym (ap (with_penalty most) e)
+use Rattle.lateness_bound.specs.Bound.{with_window, with_penalty, later_window, dearer_penalty, latest_window, dearest_penalty, slowest}
 
 -- ---- the loops over the places: the state before place c is that of the counted loop
 
@@ -51,7 +36,7 @@ module _ (f : ℕ → Float → Float) (flags : List ℕ) where
   end most c b h = let e : c ≡ length flags = omega (arith, b.within) in b.same ∙ ap (λ (k : ℕ). loop k f 0f) e
 
 module _ (ready due : List Float) (flags : List ℕ) (most : Float) (c : ℕ) where
-  pub window_more : (w : Window) (next : Float) → Before (later_window ready due flags) flags most c → c < length flags
+  pub window_more : (w : Option TimeWindow) (next : Float) → Before (later_window ready due flags) flags most c → c < length flags
       → w ≡ window_at ready due flags c → next ≡ with_window most w → Before (later_window ready due flags) flags next (c + 1)
   unfolding later_window
   window_more w next b h ew e = more (later_window ready due flags) flags most next c b h (e ∙ ap (with_window most) ew)
@@ -61,7 +46,7 @@ module _ (ready due : List Float) (flags : List ℕ) (most : Float) (c : ℕ) wh
   window_end b h = end (later_window ready due flags) flags most c b h
 
 module _ (penalty : List Float) (flags : List ℕ) (most : Float) (c : ℕ) where
-  pub penalty_more : (p : Penalty) (next : Float) → Before (dearer_penalty penalty flags) flags most c → c < length flags
+  pub penalty_more : (p : Option Float) (next : Float) → Before (dearer_penalty penalty flags) flags most c → c < length flags
       → p ≡ penalty_at penalty flags c → next ≡ with_penalty most p → Before (dearer_penalty penalty flags) flags next (c + 1)
   unfolding dearer_penalty
   penalty_more p next b h ep e = more (dearer_penalty penalty flags) flags most next c b h (e ∙ ap (with_penalty most) ep)
@@ -115,20 +100,3 @@ module _ (n : ℕ) (distances times : List Float) (v : Float) where
       ev ∙ sym (rw (ne_eqb (length times) 0 h) (cells times n (⊎_elim (λ e. absurd (h e)) (λ e. e) s.time_cells)))
 
 pub ruleset slowest_laws = (slowest_by_distance, slowest_by_time)
-
--- ---- the bound
-
-pub count_exact : (n : ℕ) → n ≤ 256 → T (in_float binary64 (pos n))
-unfolding in_float
-count_exact n h = subst T (sym (le-leb n (2 ^ 53) (omega arith))) tt
-
-module _ (n : ℕ) (distances times service ready due penalty : List Float) (flags : List ℕ) (v : Bool) (ev : v ≡ has_soft_windows flags) where
-  pub bound_none : v ≡ false → 0f ≡ lateness_bound (customers service ready due penalty flags) (matrix n distances times)
-  unfolding lateness_bound
-  bound_none h = rw (← ev, h)
-
-  pub bound_is : (count slow long late dear : Float) → v ≡ true → count ≡ of_int binary64 (pos n) → slow ≡ slowest (matrix n distances times) → long ≡ largest service
-      → late ≡ latest_window ready due flags → dear ≡ dearest_penalty penalty flags
-      → count ⊗ dear ⊗ (late ⊕ count ⊗ (slow ⊕ long)) ≡ lateness_bound (customers service ready due penalty flags) (matrix n distances times)
-  unfolding lateness_bound
-  bound_is count slow long late dear h ec es el ea ed = rw (← ev, h, ec, es, el, ea, ed)

@@ -1,25 +1,22 @@
 -- The most that the lateness of any plan can cost (evaluation/mod.rs, `lateness_bound`). Assumes nothing.
-use Rattle.std.specs.Prelude.{ℕ, List, cond, length, pos, Float}
+use Rattle.std.specs.Prelude.{ℕ, List, cond, length, pos, Float, Option, Some, None}
 use Rattle.std.specs.Float.{binary64}
 use Rattle.std.specs.Float.Ieee.{of_int}
 use Rattle.route_worth.specs.floats.Binary64.{◌⊕◌, ◌⊗◌, 0f, max}
 use Rattle.route_worth.specs.laws.Loops.{loop}
-use Rattle.route_worth.specs.models.declared.customer.Window.{Window}
-use Rattle.route_worth.specs.models.declared.customer.Window.TheVariants.{None as NoWindow, Is as WindowIs}
-use Rattle.route_worth.specs.models.declared.customer.Penalty.{Penalty}
-use Rattle.route_worth.specs.models.declared.customer.Penalty.TheVariants.{None as NoPenalty, Of as PenaltyOf}
 use Rattle.route_worth.specs.models.Customer.{Customers, window_at, penalty_at}
 use Rattle.route_worth.specs.models.Problem.{DistanceMatrix}
 use Rattle.route_worth.specs.distance.Matrix.{travel_time, largest}
 use Rattle.route_worth.specs.evaluation.Check.{has_soft_windows}
+use Rattle.route_worth.specs.models.declared.customer.TimeWindow.{TimeWindow}
 
-abbrev pub with_window : Float → Window → Float
-with_window most NoWindow = most
-with_window most (WindowIs w) = max most (max w.ready w.due)
+abbrev pub with_window : Float → Option TimeWindow → Float
+with_window most None = most
+with_window most (Some w) = max most (max w.ready w.due)
 
-abbrev pub with_penalty : Float → Penalty → Float
-with_penalty most NoPenalty = most
-with_penalty most (PenaltyOf each) = max most each
+abbrev pub with_penalty : Float → Option Float → Float
+with_penalty most None = most
+with_penalty most (Some each) = max most each
 
 -- place c's part in each
 unfoldable pub later_window : List Float → List Float → List ℕ → ℕ → Float → Float

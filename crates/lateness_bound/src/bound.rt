@@ -6,57 +6,50 @@ ghost use Rattle.route_worth.specs.models.Customer.{customers};
 ghost use Rattle.route_worth.specs.models.Problem.{matrix, Square, Fit};
 ghost use Rattle.lateness_bound.specs.Bound.{with_window, with_penalty, latest_window, dearest_penalty, slowest, lateness_bound};
 
-use route_worth::{Penalty, Window, has_soft_windows, largest, max, penalty_at, window_at};
+use route_worth::{TimeWindow, has_soft_windows, largest, max, penalty_at, window_at};
 
 // The larger of `most` and both ends of a window, if there is one.
-fn with_window(most: f64, window: Window) -> f64
+fn with_window(most: f64, window: Option<TimeWindow>) -> f64
     ensures { result ≡ with_window most window }
 {
-    match window {
-        Window::None => most,
-        Window::Is(tw) => max(most, max(tw.ready, tw.due)),
-    }
+    window.map_or(most, |tw| max(most, max(tw.ready, tw.due)))
 }
 
 // The larger of `most` and a penalty, if there is one.
-fn with_penalty(most: f64, penalty: Penalty) -> f64
+fn with_penalty(most: f64, penalty: Option<f64>) -> f64
     ensures { result ≡ with_penalty most penalty }
 {
-    match penalty {
-        Penalty::None => most,
-        Penalty::Of(each) => max(most, each),
-    }
+    penalty.map_or(most, |each| max(most, each))
 }
 
 // The latest end of any window, 0 where there is none.
+#[tactic(auto, using(crate::proofs::BoundLaws::place_laws))]
 fn latest_window(ready: &[f64], due: &[f64], flags: &[u8]) -> f64
     requires { (length ready.now ≡ length flags.now) × (length due.now ≡ length flags.now) }
     ensures { result ≡ latest_window ready.now due.now flags.now }
 {
     let mut most = 0.0;
-    let mut c = 0;
-    while c < flags.len() {
+    for c in 0..flags.len() {
         most = with_window(most, window_at(c, ready, due, flags));
-        c += 1;
     }
     most
 }
 
 // The dearest penalty of any place, with a window or without, 0 where there is none.
+#[tactic(auto, using(crate::proofs::BoundLaws::place_laws))]
 fn dearest_penalty(penalty: &[f64], flags: &[u8]) -> f64
     requires { length penalty.now ≡ length flags.now }
     ensures { result ≡ dearest_penalty penalty.now flags.now }
 {
     let mut most = 0.0;
-    let mut c = 0;
-    while c < flags.len() {
+    for c in 0..flags.len() {
         most = with_penalty(most, penalty_at(c, penalty, flags));
-        c += 1;
     }
     most
 }
 
 // The slowest travel between any two places, a place and itself included.
+#[tactic(auto, using(crate::proofs::BoundLaws::slowest_laws))]
 fn slowest(n: usize, distances: &[f64], times: &[f64]) -> f64
     requires { Square (matrix n distances.now times.now) }
     ensures { result ≡ slowest (matrix n distances.now times.now) }
@@ -77,6 +70,7 @@ fn count_as_float(n: usize) -> f64
 }
 
 // The bound, 0 where no window is soft.
+#[tactic(auto, unfolding(crate::specs::Bound::lateness_bound))]
 pub fn lateness_bound(
     n: usize,
     distances: &[f64],

@@ -8,37 +8,34 @@ ghost use Rattle.quick_fit.specs.models.Problem.{matrix, Fit};
 ghost use Rattle.quick_fit.specs.quick_test.Quick.{earliest_start, latest_start, latest_arrival};
 ghost use Rattle.quick_fit.specs.quick_test.Parts.{latest_in};
 
-use quick_fit::{Window, customer_at, min, travel_time};
+use quick_fit::{TimeWindow, customer_at, min, travel_time};
 
 // Of the crates below, passed on to those above.
 pub use quick_fit::{
-    Counts, Insertion, Left, LocalSearchNext, Pick, Reduction, RouteCostBest, Vehicle, checked,
-    constrained, copy_part, feasible, has_room, infinity, insertion_cost, leave, may_fit,
-    next_pick, offset, put_in, rounds, take_out, trial_ok, within_capacity,
+    Counts, Insertion, LocalSearchNext, Pick, Reduction, Vehicle, checked, constrained, copy_part,
+    feasible, has_room, infinity, insertion_cost, leave, may_fit, next_pick, offset, put_in,
+    rounds, take_out, trial_ok, within_capacity,
 };
 
 // When service may start at the earliest, where there is a window.
-fn earliest_start(window: Window) -> f64
+fn earliest_start(window: Option<TimeWindow>) -> f64
     ensures { result ≡ earliest_start window }
 {
     match window {
-        Window::None => -infinity(),
-        Window::Is(tw) => tw.ready,
+        None => -infinity(),
+        Some(tw) => tw.ready,
     }
 }
 
 // When service may start at the latest, where there is a window.
-fn latest_start(window: Window) -> f64
+fn latest_start(window: Option<TimeWindow>) -> f64
     ensures { result ≡ latest_start window }
 {
-    match window {
-        Window::None => infinity(),
-        Window::Is(tw) => tw.due,
-    }
+    window.map_or(infinity(), |tw| tw.due)
 }
 
 // How late a stop may be reached where its service has to start by `start_by`: no arrival is in time where it opens after that.
-fn latest_in(start_by: f64, window: Window) -> f64
+fn latest_in(start_by: f64, window: Option<TimeWindow>) -> f64
     ensures { result ≡ latest_in start_by window }
 {
     if earliest_start(window) > start_by {
@@ -69,6 +66,5 @@ pub fn latest_arrival(
     let travel = travel_time(distances, times, n, c, next);
     let customer = customer_at(c, service, ready, due, penalty, flags);
     let start_by = by - travel - customer.service_duration;
-    let window = customer.time_window;
-    latest_in(start_by, window)
+    latest_in(start_by, customer.time_window)
 }

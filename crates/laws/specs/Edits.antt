@@ -1,9 +1,9 @@
 -- One element put into a list, and one or some taken out of it. Assumes nothing.
 use Rattle.std.specs.Prelude.{◌≡◌, take, get_or}
 use Rattle.std.proofs.Math.Path.{refl, ap}
-use Rattle.std.proofs.Common.{sym, ◌∙◌, le_of_suc-le-suc, not-suc-le-zero, arith, add-one, length-append}
+use Rattle.std.proofs.Common.{◌∙◌, le_of_suc-le-suc, not-suc-le-zero, arith, add-one, length-append}
 use mathlib.Core.List.{List, [], ◌∷◌, ◌++◌}
-use Prim.Native.Nat.{ℕ, zero, suc, ◌+◌, ◌-◌, ◌≤◌, ◌<◌}
+use Prim.Native.Nat.{ℕ, zero, suc, ◌+◌, ◌≤◌, ◌<◌}
 use Rattle.std.proofs.Math.ListN.{length, drop, length-take, length-drop, get_or-append}
 use Rattle.std.proofs.Math.Seq.{length-take-le, get_or_at, get_or-take}
 use Rattle.laws.specs.All.{All, all_append, all_take, all_drop, all_cons}

@@ -6,7 +6,7 @@ use Rattle.std.proofs.Math.Path.{refl, ap, sym}
 use Rattle.std.proofs.Common.{◌∙◌, true≢false, not-suc-le-zero, arith, get_or-take, lt-ltb, le-ltb, ltb-true, ltb-false}
 use Rattle.std.proofs.Math.Bool.{true, false, cond}
 use mathlib.Core.List.{List, [], ◌∷◌, ◌++◌, map, flat_map}
-use Rattle.std.proofs.Math.Option.{Option, none, some}
+use Rattle.std.specs.Prelude.{Option, None, Some}
 use Rattle.std.proofs.Math.ListN.{get_or, drop}
 use Rattle.std.proofs.Math.Seq.{split_at, length-take-le}
 use Rattle.std.specs.Int.Signed.{lt_z}
@@ -105,18 +105,18 @@ ordering_by {A} key =
 
 -- `iter().find(f)`
 unfoldable pub find : {A : Type 0} → (A → Bool) → List A → Option A
-find f [] = none
-find f (x ∷ xs) = cond (f x) (some x) (find f xs)
+find f [] = None
+find f (x ∷ xs) = cond (f x) (Some x) (find f xs)
 
 module _ {A : Type 0} (before : A → A → Bool) where
   -- x comes before the best so far
   abbrev pub leads : A → Option A → Bool
-  leads x none = true
-  leads x (some best) = before x best
+  leads x None = true
+  leads x (Some best) = before x best
 
   -- the best so far after a look at x: the first of equals stays
   unfoldable pub better : (A → Bool) → Option A → A → Option A
-  better f best x = cond (leads x best) (cond (f x) (some x) best) best
+  better f best x = cond (leads x best) (cond (f x) (Some x) best) best
 
   module _ (f : A → Bool) where
     -- one that fails the test changes nothing
@@ -128,7 +128,7 @@ module _ {A : Type 0} (before : A → A → Bool) where
         go true = refl
         go false = refl
 
-    better_takes : (best : Option A) (x : A) → leads x best ≡ true → f x ≡ true → better f best x ≡ some x
+    better_takes : (best : Option A) (x : A) → leads x best ≡ true → f x ≡ true → better f best x ≡ Some x
     unfolding better
     better_takes best x h e = rw (h, e)
 
@@ -138,13 +138,13 @@ module _ {A : Type 0} (before : A → A → Bool) where
     still_leads x best all_nil h = h
     still_leads x best (all_cons {x = y} e a) h = still_leads x (better f best y) a (go (leads y best) (f y))
       where
-        go : (b c : Bool) → leads x (cond b (cond c (some y) best) best) ≡ true
+        go : (b c : Bool) → leads x (cond b (cond c (Some y) best) best) ≡ true
         go true true = e
         go true false = h
         go false c = h
 
     -- one that none of these is before stays
-    stays : (x : A) {xs : List A} → All (λ y. before y x ≡ false) xs → foldl (better f) (some x) xs ≡ some x
+    stays : (x : A) {xs : List A} → All (λ y. before y x ≡ false) xs → foldl (better f) (Some x) xs ≡ Some x
     unfolding foldl better
     stays x all_nil = refl
     stays x (all_cons e a) = rw e (stays x a)
@@ -178,29 +178,29 @@ module _ {A : Type 0} (before : A → A → Bool) where
 
       module _ (xs : List A) (i : ℕ) (h : Foremost xs (length xs) i) where
         -- where the foremost passes it is the best of all
-        takes : f (get_or xs i d) ≡ true → some (get_or xs i d) ≡ foldl (better f) none xs
+        takes : f (get_or xs i d) ≡ true → Some (get_or xs i d) ≡ foldl (better f) None xs
         unfolding foldl
         takes e =
             let x = get_or xs i d in
             let earlier : All (λ y. before x y ≡ true) (take i xs) =
             all_of (take i xs) d (λ j g. rw (get_or-take i xs j d (omega (arith, length-take-le i xs (omega (arith, h.inside))))) (h.first j (omega (arith, length-take-le i xs (omega (arith, h.inside)))))) in
             let later : All (λ y. before y x ≡ false) (drop (suc i) xs) = all_drop (suc i) (all_of xs d (λ j g. h.none_before j g)) in
-            let lead : leads x (foldl (better f) none (take i xs)) ≡ true = still_leads x none earlier refl in
-            sym (ap (λ (l : List A). foldl (better f) none l) (split_at xs i d h.inside)
-            ∙ foldl_append (better f) none (take i xs) (x ∷ drop (suc i) xs)
-            ∙ ap (λ (t : Option A). foldl (better f) t (drop (suc i) xs)) (better_takes (foldl (better f) none (take i xs)) x lead e)
+            let lead : leads x (foldl (better f) None (take i xs)) ≡ true = still_leads x None earlier refl in
+            sym (ap (λ (l : List A). foldl (better f) None l) (split_at xs i d h.inside)
+            ∙ foldl_append (better f) None (take i xs) (x ∷ drop (suc i) xs)
+            ∙ ap (λ (t : Option A). foldl (better f) t (drop (suc i) xs)) (better_takes (foldl (better f) None (take i xs)) x lead e)
             ∙ stays x later)
 
         -- where it fails the best is that of the others
-        leaves : f (get_or xs i d) ≡ false → foldl (better f) none (erase i xs) ≡ foldl (better f) none xs
+        leaves : f (get_or xs i d) ≡ false → foldl (better f) None (erase i xs) ≡ foldl (better f) None xs
         unfolding erase foldl
         leaves e =
-            foldl_append (better f) none (take i xs) (drop (suc i) xs)
-            ∙ sym (ap (λ (l : List A). foldl (better f) none l) (split_at xs i d h.inside)
-            ∙ foldl_append (better f) none (take i xs) (get_or xs i d ∷ drop (suc i) xs)
-            ∙ ap (λ (t : Option A). foldl (better f) t (drop (suc i) xs)) (better_fails (foldl (better f) none (take i xs)) (get_or xs i d) e))
+            foldl_append (better f) None (take i xs) (drop (suc i) xs)
+            ∙ sym (ap (λ (l : List A). foldl (better f) None l) (split_at xs i d h.inside)
+            ∙ foldl_append (better f) None (take i xs) (get_or xs i d ∷ drop (suc i) xs)
+            ∙ ap (λ (t : Option A). foldl (better f) t (drop (suc i) xs)) (better_fails (foldl (better f) None (take i xs)) (get_or xs i d) e))
 
-      from_smallest : (n : ℕ) (xs : List A) → length xs ≡ n → find f (smallest before d n xs) ≡ foldl (better f) none xs
+      from_smallest : (n : ℕ) (xs : List A) → length xs ≡ n → find f (smallest before d n xs) ≡ foldl (better f) None xs
       unfolding smallest find foldl
       from_smallest zero [] e = refl
       from_smallest zero (x ∷ xs) e = absurd (omega arith)
@@ -210,13 +210,13 @@ module _ {A : Type 0} (before : A → A → Bool) where
           go (f (get_or xs i d)) refl (takes xs i h) (leaves xs i h) (from_smallest n (erase i xs) (omega (arith, length_erase i xs h.inside)))
         where
           go : (b : Bool) → f (get_or xs (least_at before d xs) d) ≡ b
-              → (f (get_or xs (least_at before d xs) d) ≡ true → some (get_or xs (least_at before d xs) d) ≡ foldl (better f) none xs)
-              → (f (get_or xs (least_at before d xs) d) ≡ false → foldl (better f) none (erase (least_at before d xs) xs) ≡ foldl (better f) none xs)
-              → find f (smallest before d n (erase (least_at before d xs) xs)) ≡ foldl (better f) none (erase (least_at before d xs) xs)
-              → cond b (some (get_or xs (least_at before d xs) d)) (find f (smallest before d n (erase (least_at before d xs) xs))) ≡ foldl (better f) none xs
+              → (f (get_or xs (least_at before d xs) d) ≡ true → Some (get_or xs (least_at before d xs) d) ≡ foldl (better f) None xs)
+              → (f (get_or xs (least_at before d xs) d) ≡ false → foldl (better f) None (erase (least_at before d xs) xs) ≡ foldl (better f) None xs)
+              → find f (smallest before d n (erase (least_at before d xs) xs)) ≡ foldl (better f) None (erase (least_at before d xs) xs)
+              → cond b (Some (get_or xs (least_at before d xs) d)) (find f (smallest before d n (erase (least_at before d xs) xs))) ≡ foldl (better f) None xs
           go true p g k r = g p
           go false p g k r = r ∙ k p
 
-      pub find_sorted : (xs : List A) → find f (sort_by before d xs) ≡ foldl (better f) none xs
+      pub find_sorted : (xs : List A) → find f (sort_by before d xs) ≡ foldl (better f) None xs
       unfolding sort_by
       find_sorted xs = from_smallest (length xs) xs refl

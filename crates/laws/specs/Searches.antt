@@ -1,6 +1,7 @@
 -- Searches over a list that end at the first hit. Assumes nothing.
 use Prim.Native.Nat.{ℕ, zero, suc, ◌+◌, ◌-◌, ◌≤◌, ◌<◌}
 use Rattle.std.specs.Prelude.{◌≡◌, refl, Bool, true, false, ◌&&◌, ◌||◌, length, get_or, drop}
+use Rattle.std.specs.List.{list_any}
 use Rattle.std.proofs.Math.Path.{sym, ap}
 use Rattle.std.proofs.Common.{subst, ◌∙◌, true≢false, le_of_suc-le-suc, not-suc-le-zero, zero-add, drop_of_length-le, drop-cons}
 use Rattle.std.proofs.lemmas.Bool.{false≢true}
@@ -26,27 +27,22 @@ or_neither false b e = (refl, e)
 -- ---- a hit
 
 -- some element passes the test: `iter().any(f)`
-unfoldable pub any : {A : Type 0} → (A → Bool) → List A → Bool
-any f [] = false
-any f (x ∷ xs) = f x || any f xs
+abbrev pub any : {A : Type 0} → (A → Bool) → List A → Bool
+any f xs = list_any f xs
 
 -- In code, over a list by its index i: nothing before i has passed, so the whole has a hit exactly if what is left has one.
 module _ {A : Type 0} (f : A → Bool) (d : A) (xs : List A) where
   pub any_skip : (i : ℕ) → any f xs ≡ any f (drop i xs) → i < length xs → f (get_or xs i d) ≡ false → any f xs ≡ any f (drop (i + 1) xs)
-  unfolding any
   any_skip i e h t = e ∙ rw (drop-cons xs i d h, t, add-one i)
 
   pub any_hit : (i : ℕ) → any f xs ≡ any f (drop i xs) → i < length xs → f (get_or xs i d) ≡ true → true ≡ any f xs
-  unfolding any
   any_hit i e h t = sym (e ∙ rw (drop-cons xs i d h, t))
 
   pub any_end : (i : ℕ) → any f xs ≡ any f (drop i xs) → length xs ≤ i → false ≡ any f xs
-  unfolding any
   any_end i e h = sym (e ∙ ap (λ (l : List A). any f l) (drop_of_length-le xs h))
 
 -- where no element passes, each fails the test
 pub any_none : {A : Type 0} (f : A → Bool) (xs : List A) → any f xs ≡ false → All (λ x. f x ≡ false) xs
-unfolding any
 any_none f [] e = all_nil
 any_none f (x ∷ xs) e = go (f x) refl e (λ h. any_none f xs h)
   where

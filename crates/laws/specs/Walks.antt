@@ -9,7 +9,7 @@ use mathlib.Core.List.{List, [], ◌∷◌, ◌++◌}
 use Rattle.std.proofs.Math.Numerals.{add-one}
 use native.Mathlib.Omega.{arith}
 use Rattle.std.proofs.Math.ListN.{length, drop}
-use Rattle.laws.specs.All.{All, all_nil, all_cons}
+use Rattle.laws.specs.All.{All, all_cons}
 use Rattle.laws.specs.Edits.{insert_at}
 
 -- the stops in order, from the state s, as far as they can be served

@@ -7,8 +7,8 @@ ghost use Rattle.entry.specs.Table.{bad_lengths};
 
 // Of the crates below, passed on to those above.
 pub use entry::{
-    Eval, RouteEval, Taken, Vehicle, break_schedule_schedule, evaluation_check,
-    route_cost_gain_floor, route_cost_route_distance,
+    Refusal, RouteEval, Vehicle, break_schedule_schedule, evaluation_check, route_cost_gain_floor,
+    route_cost_route_distance,
 };
 
 // The sum of the lengths.
@@ -17,10 +17,8 @@ fn total(lengths: &[u16]) -> usize
     ensures { result ≡ total lengths.now }
 {
     let mut sum = 0;
-    let mut k = 0;
-    while k < lengths.len() {
-        sum = sum + lengths[k] as usize;
-        k += 1;
+    for length in lengths {
+        sum += *length as usize;
     }
     sum
 }
@@ -29,8 +27,5 @@ fn total(lengths: &[u16]) -> usize
 pub fn bad_lengths(lengths: &[u16], stops: &[u16]) -> bool
     ensures { result ≡ bad_lengths (record { lengths = lengths.entry.now; stops = stops.now }) }
 {
-    if lengths.len() > 256 {
-        return true;
-    }
-    total(lengths) != stops.len()
+    lengths.len() > 256 || total(lengths) != stops.len()
 }

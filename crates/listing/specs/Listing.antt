@@ -1,10 +1,8 @@
 -- The listing that a sheet prints ("The rest: bound and sheet"). Assumes nothing.
-use Rattle.std.specs.Prelude.{ℕ, suc, ◌≡◌, refl, List, [], ◌∷◌, ◌++◌, length, ℤ, pos, negsuc, T, Float}
+use Rattle.std.specs.Prelude.{ℕ, suc, ◌≡◌, refl, List, [], ◌∷◌, ◌++◌, length, ℤ, pos, negsuc, T, Float, None}
 use Rattle.std.specs.Float.{binary64}
 use Rattle.std.specs.Float.Ieee.{add, of_int, in_unsigned, to_unsigned}
 use Rattle.local_search.specs.floats.Whole.{nat}
-use Rattle.local_search.specs.models.declared.vehicle.Limit.TheVariants.{None as NoLimit}
-use Rattle.local_search.specs.models.declared.vehicle.Rest.TheVariants.{None as NoRest}
 use Rattle.local_search.specs.models.declared.vehicle.Vehicle.{Vehicle}
 use Rattle.local_search.specs.models.Problem.{Problem, problem, depot}
 use Rattle.local_search.specs.laws.Loops.{foldl}
@@ -84,7 +82,7 @@ unfolding text listing first_line last_line refusal_line route_lines route_line 
 opened = tt
 
 van : Vehicle
-van = record { capacity = pos 10; depot_id = 0; fixed_cost = nat 0; cost_per_distance = nat 1; max_distance = NoLimit; max_duration = NoLimit; rest = NoRest }
+van = record { capacity = pos 10; depot_id = 0; fixed_cost = nat 0; cost_per_distance = nat 1; max_distance = None; max_duration = None; rest = None }
 
 -- what the listing reads of the sample's problem, with these demands
 sample_with : List ℤ → Problem

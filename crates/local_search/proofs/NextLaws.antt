@@ -4,7 +4,7 @@ use Prim.Native.Nat.{ℕ, ◌+◌, ◌*◌, ◌≤◌, ◌<◌}
 use mathlib.Core.Path.{◌≡◌, sym, ap, ◌∙◌}
 use mathlib.Core.Bool.{not}
 use mathlib.Core.List.{List, ◌∷◌}
-use mathlib.Core.Option.{none, some}
+use Rattle.std.proofs.Common.{Option, None, Some}
 use native.Mathlib.Nat.{le_refl}
 use native.Mathlib.Omega.{arith}
 use lib.ListN.{length, take}
@@ -12,7 +12,6 @@ use lib.Dec.{eqb}
 use Rattle.route_order.specs.laws.Counts.{same_length}
 use Rattle.route_order.specs.laws.Keeps.{length_keep}
 use Rattle.route_order.specs.declared.Pick.{Pick}
-use Rattle.route_order.specs.declared.Pick.TheVariants.{Nothing, At}
 use Rattle.route_order.specs.plan.Plan.{Plan, Lent, split, flat, total, padded, drop_zero, drop_empty}
 use Rattle.route_order.specs.Order.{next_pick, following}
 use Rattle.route_order.specs.Following.{following_at, following_nothing, next_pick_inside}
@@ -56,51 +55,51 @@ module _ (ls L : List ℕ) (k : ℕ) (e : L ≡ padded (length ls) (drop_zero ls
 
 -- ---- the next attempt
 
-module _ (ls : List ℕ) (last x : Pick) (e : x ≡ next_pick ls last) where
-  pub no_pick : (f : Attempt) (routes : Plan) (n : Counts) → x ≡ Nothing → ◌≡◌ {A = Tried} (record { plan = none; counts = n }) (try_each f routes (following ls last) n)
+module _ (ls : List ℕ) (last x : Option Pick) (e : x ≡ next_pick ls last) where
+  pub no_pick : (f : Attempt) (routes : Plan) (n : Counts) → x ≡ None → ◌≡◌ {A = Tried} (record { plan = None; counts = n }) (try_each f routes (following ls last) n)
   unfolding try_each
   no_pick f routes n h = sym (ap (λ (rs : List ℕ). try_each f routes rs n) (following_nothing ls last (sym e ∙ h)))
 
-  module _ (r l : ℕ) (h : x ≡ At r l) where
-    pub pick_there : r < length ls
-    pick_there = (next_pick_inside ls last r l (sym e ∙ h)).0
+  module _ (pick : Pick) (h : x ≡ Some pick) where
+    pub pick_there : pick.route < length ls
+    pick_there = (next_pick_inside ls last pick.route pick.length (sym e ∙ h)).0
 
-    picks : following ls last ≡ r ∷ following ls (At r l)
-    picks = following_at ls last r l (sym e ∙ h)
+    picks : following ls last ≡ pick.route ∷ following ls (Some pick)
+    picks = following_at ls last pick.route pick.length (sym e ∙ h)
 
     -- of at most `limit` steps
     module _ (attempt : Attempt) (limit : ℕ) (g : Reduces attempt limit) (s : List ℕ) (n m : Counts) (L S : List ℕ) (d : n.draws ≤ 500 * n.steps) where
       abbrev answer : Tried
-      answer = attempt (split ls s) r n
+      answer = attempt (split ls s) pick.route n
 
       bounded : m ≡ answer.counts → Bounded (limit + n.steps) m
-      bounded q = rw q (g.bounded (limit + n.steps) (split ls s) r n (le_refl (limit + n.steps)) d)
+      bounded q = rw q (g.bounded (limit + n.steps) (split ls s) pick.route n (le_refl (limit + n.steps)) d)
 
       -- the plan is kept
-      module _ (t : ◌≡◌ {A = Tried} (record { plan = none; counts = m }) answer) where
-        pub next_kept : try_each attempt (split ls s) (following ls (At r l)) m ≡ try_each attempt (split ls s) (following ls last) n
+      module _ (t : ◌≡◌ {A = Tried} (record { plan = None; counts = m }) answer) where
+        pub next_kept : try_each attempt (split ls s) (following ls (Some pick)) m ≡ try_each attempt (split ls s) (following ls last) n
         next_kept =
             sym (ap (λ (rs : List ℕ). try_each attempt (split ls s) rs n) picks
-            ∙ try_next attempt (split ls s) r (following ls (At r l)) n (sym (ap (λ (y : Tried). y.plan) t))
-            ∙ ap (λ (y : Tried). try_each attempt (split ls s) (following ls (At r l)) y.counts) (sym t))
+            ∙ try_next attempt (split ls s) pick.route (following ls (Some pick)) n (sym (ap (λ (y : Tried). y.plan) t))
+            ∙ ap (λ (y : Tried). try_each attempt (split ls s) (following ls (Some pick)) y.counts) (sym t))
 
-        pub next_refused : L ≡ ls → S ≡ s → Refused limit ls s last n (At r l) m L S
+        pub next_refused : L ≡ ls → S ≡ s → Refused limit ls s last n pick m L S
         next_refused a b = record { same_lengths = a; same_stops = b; counted = bounded (ap (λ (y : Tried). y.counts) t); pick_less = ap length picks }
 
       -- the one without the route is accepted
-      module _ (t : ◌≡◌ {A = Tried} (record { plan = some (split (but_last L) S); counts = m }) answer) where
-        pub next_accepted : ◌≡◌ {A = Tried} (record { plan = some (split (but_last L) S); counts = m }) (try_each attempt (split ls s) (following ls last) n)
+      module _ (t : ◌≡◌ {A = Tried} (record { plan = Some (split (but_last L) S); counts = m }) answer) where
+        pub next_accepted : ◌≡◌ {A = Tried} (record { plan = Some (split (but_last L) S); counts = m }) (try_each attempt (split ls s) (following ls last) n)
         next_accepted =
             sym (ap (λ (rs : List ℕ). try_each attempt (split ls s) rs n) picks
-            ∙ try_taken attempt (split ls s) r (following ls (At r l)) n (split (but_last L) S) (sym (ap (λ (y : Tried). y.plan) t))
-            ∙ ap (λ (y : Tried). record { plan = some (split (but_last L) S); counts = y.counts }) (sym t))
+            ∙ try_taken attempt (split ls s) pick.route (following ls (Some pick)) n (split (but_last L) S) (sym (ap (λ (y : Tried). y.plan) t))
+            ∙ ap (λ (y : Tried). record { plan = Some (split (but_last L) S); counts = y.counts }) (sym t))
 
         pub next_taken : (size : ℕ) → total ls ≡ length s → length S ≡ length s → Planned size (split ls s) → EndsWith0 L S → Taken limit size ls last n m L S
         next_taken size whole long planned ends =
             let plan = split (but_last L) S in
-            let there : r < length (split ls s) = rw length_split pick_there in
+            let there : pick.route < length (split ls s) = rw length_split pick_there in
             let better : Better (λ q. Unit) (split ls s) plan =
-            each_found (Better (λ q. Unit) (split ls s)) answer.plan (sym (ap (λ (y : Tried). y.plan) t)) (g.better (split ls s) r n there) in
+            each_found (Better (λ q. Unit) (split ls s)) answer.plan (sym (ap (λ (y : Tried). y.plan) t)) (g.better (split ls s) pick.route n there) in
             let long-flat : length (flat plan) ≡ length (flat (split ls s)) = same_length (flat plan) (flat (split ls s)) better.places in
             record {
               ends = ends;

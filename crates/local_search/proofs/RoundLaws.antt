@@ -4,7 +4,7 @@ use Prim.Native.Nat.{ℕ, zero, suc, ◌≤◌, ◌<◌}
 use mathlib.Core.Path.{◌≡◌, refl, sym, ap, ◌∙◌}
 use mathlib.Core.Bool.{Bool, true, false}
 use mathlib.Core.List.{[], ◌∷◌}
-use mathlib.Core.Option.{Option, none, some}
+use Rattle.std.proofs.Common.{Option, None, Some}
 use native.Mathlib.Omega.{arith}
 use borrow.Author.Tests.{eqb-true, eqb-false}
 use lib.ListN.{length}
@@ -59,7 +59,7 @@ module _ (attempt : Attempt)
       t = try_all attempt (r ∷ rs) n
 
       go : (o : Option Plan) → t.plan ≡ o → or_end (λ plan m. rounds attempt (length rs) plan m) (r ∷ rs) o t.counts ≡ or_end (λ plan m. rounds_of attempt plan m) (r ∷ rs) o t.counts
-      go none e = refl
-      go (some x) e =
+      go None e = refl
+      go (Some x) e =
           let y = each_found (λ z. length z < suc (length rs)) t.plan e (round_has attempt (λ z. length z < suc (length rs)) (r ∷ rs) (fewer (r ∷ rs)) n) in
           rounds_cut (length rs) (drop_empty x) t.counts (omega (arith, length_keep non_empty x))

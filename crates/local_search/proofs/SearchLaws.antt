@@ -3,7 +3,7 @@
 use Prim.Native.Nat.{ℕ, zero, suc, ◌+◌, ◌-◌, ◌*◌, ◌≤◌, ◌<◌}
 use mathlib.Core.Path.{◌≡◌, refl, sym, ap, subst, ◌∙◌}
 use mathlib.Core.List.{List, [], ◌∷◌, ◌++◌, append_assoc}
-use mathlib.Core.Option.{none, some}
+use Rattle.std.proofs.Common.{Option, None, Some}
 use native.Mathlib.Nat.{not-suc-le-zero, suc-mul, mul-add, mul_comm, mul-le-mul_left}
 use native.Mathlib.Omega.{arith}
 use lib.ListN.{length, take, drop, replicate, length-append, take-append-drop}
@@ -12,7 +12,6 @@ use Rattle.route_order.specs.laws.Keeps.{keep}
 use Rattle.route_order.specs.laws.Sorts.{range, smallest, sort_by, length_sort_by, length_range}
 use Rattle.route_order.specs.laws.Counts.{count as count_of}
 use Rattle.route_order.specs.declared.Pick.{Pick}
-use Rattle.route_order.specs.declared.Pick.TheVariants.{Nothing}
 use Rattle.route_order.specs.plan.Plan.{Plan, Lent, split, flat, lengths_of, total, padded, drop_zero, drop_empty}
 use Rattle.route_order.specs.Order.{order, following}
 use Rattle.route_order.specs.Following.{following_all}
@@ -29,7 +28,7 @@ use Rattle.local_search.proofs.RoundLaws.{rounds_of, ended_with, rounds_are}
 use Rattle.local_search.proofs.NextLaws.{fewer_routes, in_use, begun_long, count_within, begun_routes, begun_planned}
 
 -- where there are no routes there are no picks
-no_picks : (ls : List ℕ) (last : Pick) → length ls ≡ 0 → 0 < length (following ls last) → ⊥
+no_picks : (ls : List ℕ) (last : Option Pick) → length ls ≡ 0 → 0 < length (following ls last) → ⊥
 unfolding following range keep sort_by smallest
 no_picks [] last e h = not-suc-le-zero h
 no_picks (l ∷ ls) last e h = absurd (omega (arith, e))
@@ -59,7 +58,7 @@ module _ (attempt : Attempt) (limit places : ℕ) where
     pub stepped : n.steps + limit * triangle count ≤ limit * triangle 256
 
   -- in a round: nothing has changed, and the attempts that are left are those of the round
-  pub record Trying (ls₁ s₁ : List ℕ) (n₁ : Counts) (count : ℕ) (ls s : List ℕ) (n : Counts) (last : Pick) : Type 0 where
+  pub record Trying (ls₁ s₁ : List ℕ) (n₁ : Counts) (count : ℕ) (ls s : List ℕ) (n : Counts) (last : Option Pick) : Type 0 where
     pub begun : Begun ls₁ s₁ n₁ count
     pub same_lengths : ls ≡ ls₁
     pub same_stops : s ≡ s₁
@@ -105,15 +104,15 @@ module _ (attempt : Attempt) (limit places : ℕ) where
         stepped = rw c g.stepped;
       }
 
-      pub trying_start : length ls₀ ≤ 256 → Trying ls₁ s n k ls₁ s n Nothing
+      pub trying_start : length ls₀ ≤ 256 → Trying ls₁ s n k ls₁ s n None
       trying_start m =
           let b = begins m in
           let front = take k ls₁ in
           let own : lengths_of (split front s) ≡ front = lengths_split front s (omega (arith, b.whole)) in
-          let all : following front Nothing ≡ order front = following_all front in
+          let all : following front None ≡ order front = following_all front in
           let number : length (order front) ≡ length front = length_sort_by _ 0 _ ∙ length_range 0 (length front) in
           let there : length front ≡ k = length-take-le k ls₁ b.count_in in
-          let less : limit * length (following front Nothing) ≡ limit * k = ap (λ (i : ℕ). limit * i) (ap length all ∙ number ∙ there) in
+          let less : limit * length (following front None) ≡ limit * k = ap (λ (i : ℕ). limit * i) (ap length all ∙ number ∙ there) in
           record {
             begun = b;
             same_lengths = refl;
@@ -125,7 +124,7 @@ module _ (attempt : Attempt) (limit places : ℕ) where
 
   -- ---- in a round
 
-  module _ {ls₁ s₁ : List ℕ} {n₁ : Counts} {count : ℕ} {ls s : List ℕ} {n : Counts} {last : Pick} (g : Trying ls₁ s₁ n₁ count ls s n last) where
+  module _ {ls₁ s₁ : List ℕ} {n₁ : Counts} {count : ℕ} {ls s : List ℕ} {n : Counts} {last : Option Pick} (g : Trying ls₁ s₁ n₁ count ls s n last) where
     front : take count ls ≡ take count ls₁
     front = ap (take count) g.same_lengths
 
@@ -165,15 +164,15 @@ module _ (attempt : Attempt) (limit places : ℕ) where
 
     -- the plan is kept
     module _ (Y S : List ℕ) (pick : Pick) (m : Counts)
-        (q : try_each attempt (split (take count ls) s) (following (take count ls) pick) m
+        (q : try_each attempt (split (take count ls) s) (following (take count ls) (Some pick)) m
         ≡ try_each attempt (split (take count ls) s) (following (take count ls) last) n)
         (f : Refused limit (take count ls) s last n pick m Y S) where
-      trying_again : Trying ls₁ s₁ n₁ count (Y ++ drop count ls) S m pick
+      trying_again : Trying ls₁ s₁ n₁ count (Y ++ drop count ls) S m (Some pick)
       trying_again =
-          let less : length (following (take count ls₁) last) ≡ suc (length (following (take count ls₁) pick)) = rw front at f.pick_less in
-          let t : limit * length (following (take count ls₁) last) ≡ limit + limit * length (following (take count ls₁) pick) =
-          ap (λ (k : ℕ). limit * k) less ∙ mul_comm limit (suc (length (following (take count ls₁) pick)))
-          ∙ suc-mul (length (following (take count ls₁) pick)) limit ∙ omega (arith, mul_comm limit (length (following (take count ls₁) pick))) in
+          let less : length (following (take count ls₁) last) ≡ suc (length (following (take count ls₁) (Some pick))) = rw front at f.pick_less in
+          let t : limit * length (following (take count ls₁) last) ≡ limit + limit * length (following (take count ls₁) (Some pick)) =
+          ap (λ (k : ℕ). limit * k) less ∙ mul_comm limit (suc (length (following (take count ls₁) (Some pick))))
+          ∙ suc-mul (length (following (take count ls₁) (Some pick))) limit ∙ omega (arith, mul_comm limit (length (following (take count ls₁) (Some pick)))) in
           record {
             begun = g.begun;
             same_lengths = back Y f.same_lengths ∙ g.same_lengths;
@@ -196,11 +195,11 @@ module _ (attempt : Attempt) (limit places : ℕ) where
 
       -- no pick is left
       trying_answers : (width : ℕ) (Y S : List ℕ) → width ≡ length ls₁ → Y ≡ take count ls → S ≡ s
-          → ◌≡◌ {A = Tried} (record { plan = none; counts = n }) (try_each attempt (split (take count ls) s) (following (take count ls) last) n)
+          → ◌≡◌ {A = Tried} (record { plan = None; counts = n }) (try_each attempt (split (take count ls) s) (following (take count ls) last) n)
           → Answers x width count n (Y ++ drop count ls) S
       unfolding or_end padded
       trying_answers width Y S z y e q =
-          let end : x ≡ record { plan = split (take count ls₁) s₁; counts = n } = comes_to (record { plan = none; counts = n }) q in
+          let end : x ≡ record { plan = split (take count ls₁) s₁; counts = n } = comes_to (record { plan = None; counts = n }) q in
           let b = g.begun in
           let there : length (take count ls₁) ≡ count = length-take-le count ls₁ b.count_in in
           let own : lengths_of (split (take count ls₁) s₁) ≡ take count ls₁ = lengths_split (take count ls₁) s₁ (omega (arith, b.whole)) in
@@ -244,7 +243,7 @@ module _ (attempt : Attempt) (limit places : ℕ) where
 
       round_again : Reduces attempt limit → (ls₀ s₀ : List ℕ) → length ls₁ ≡ length ls₀ → length s₁ ≡ length s₀ → length S ≡ length s
           → reduce attempt (split ls₀ s₀) ≡ rounds_of attempt (split (take count ls₁) s₁) n₁
-          → ◌≡◌ {A = Tried} (record { plan = some (split (but_last Y) S); counts = m }) (try_each attempt (split (take count ls) s) (following (take count ls) last) n)
+          → ◌≡◌ {A = Tried} (record { plan = Some (split (but_last Y) S); counts = m }) (try_each attempt (split (take count ls) s) (following (take count ls) last) n)
           → Rounding ls₀ s₀ (Y ++ drop count ls) S m
       unfolding or_end
       round_again a ls₀ s₀ i j k r q =
@@ -263,7 +262,7 @@ module _ (attempt : Attempt) (limit places : ℕ) where
             stops_long = omega (arith, ap length g.same_stops);
             whole = sum;
             planned = planned_as places plan (split (Y ++ drop count ls) S) (omega (arith, ap length flat-is)) (λ z. ap (count_of z) flat-is) f.planned;
-            same = comes_to a (reduce attempt (split ls₀ s₀)) r (record { plan = some plan; counts = m }) q ∙ ap (λ (z : Plan). rounds_of attempt z m) (sym dropped);
+            same = comes_to a (reduce attempt (split ls₀ s₀)) r (record { plan = Some plan; counts = m }) q ∙ ap (λ (z : Plan). rounds_of attempt z m) (sym dropped);
             drawn = f.counted.draws_in;
             stepped = omega (arith, f.counted.steps_in, g.stepped, g.begun.stepped, t, u, v);
           }
@@ -289,10 +288,10 @@ module _ (attempt : Attempt) (limit places : ℕ) where
         pub refused : Refused limit (take count ls) s last n pick m Y S
         refused = leaves (Kept pick m) f
 
-        pub after_kept_less : length (following (take count (Y ++ drop count ls)) pick) < length (following (take count ls) last)
+        pub after_kept_less : length (following (take count (Y ++ drop count ls)) (Some pick)) < length (following (take count ls) last)
         after_kept_less = rw (back Y refused.same_lengths) (omega (arith, refused.pick_less))
 
-        pub after_kept : Trying ls₁ s₁ n₁ count (Y ++ drop count ls) S m pick
+        pub after_kept : Trying ls₁ s₁ n₁ count (Y ++ drop count ls) S m (Some pick)
         after_kept = trying_again Y S pick m (told (Kept pick m) f) refused
 
       module _ (m : Counts) (long : length Y ≡ length (take count ls)) (f : z ≡ Accepted m) where

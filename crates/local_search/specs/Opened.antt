@@ -20,5 +20,5 @@ use Rattle.local_search.specs.Rounds.{or_next, try_each, or_end, rounds, reduce}
 
 -- Every definition, for a theorem that is computed: `unfolding opened`.
 unfoldable pub opened : Unit {0}
-unfolding of_bits to_bits of_int add sub mul div lt le eq is_nan insert_at erase cut loop foldl range least_at smallest sort_by keep any every walk is_finite max min abs is_sign_negative total_rank total_less largest serve_at serve push finish ride ride_home schedule drive home route_eval effective_cost has_time_windows has_soft_windows departure reach home_allowed route_feasible split flat total padded put_in take_out exchange_stops exchange_tails non_empty bind then_some or_else legs route_distance insertion_cost cost load has_room feasible or_next try_each or_end rounds reduce
+unfolding of_bits to_bits of_int add sub mul div lt le eq is_nan insert_at erase cut loop foldl range least_at smallest sort_by keep every walk is_finite max min abs is_sign_negative total_rank total_less largest serve_at serve push finish ride ride_home schedule drive home route_eval effective_cost has_time_windows has_soft_windows departure reach home_allowed route_feasible split flat total padded put_in take_out exchange_stops exchange_tails non_empty bind then_some or_else legs route_distance insertion_cost cost load has_room feasible or_next try_each or_end rounds reduce
 opened = tt

@@ -3,7 +3,7 @@
 -- round has a route fewer. Assumes nothing.
 use Rattle.std.specs.Prelude.{ℕ, zero, suc, ◌+◌, ◌-◌, ◌*◌, ◌≤◌, ◌<◌, ◌≡◌, refl, List, [], ◌∷◌, length}
 use Rattle.std.proofs.Common.{◌∙◌, subst, arith, suc-mul, mul-add, mul_comm, mul-le-mul_right}
-use Rattle.std.proofs.Math.Option.{Option, none, some}
+use Rattle.std.specs.Prelude.{Option, None, Some}
 use Rattle.std.proofs.Math.Nat.{le_refl}
 use Rattle.std.proofs.lemmas.List.{length-map}
 use Rattle.route_order.specs.laws.All.{All, all_cons, all_head}
@@ -100,8 +100,8 @@ rounds_enough attempt fewer (suc left) routes n h =
 
     go : (o : Option Plan) → t.plan ≡ o → ((plan : Plan) → length plan ≤ left → rounds attempt (suc left) plan t.counts ≡ rounds attempt left plan t.counts)
         → or_end (λ plan m. rounds attempt (suc left) plan m) routes o t.counts ≡ or_end (λ plan m. rounds attempt left plan m) routes o t.counts
-    go none e rest = refl
-    go (some x) e rest =
+    go None e rest = refl
+    go (Some x) e rest =
         let y = each_found (λ z. length z < length routes) t.plan e (round_has attempt (λ z. length z < length routes) routes (fewer routes) n) in
         rest (drop_empty x) (omega (arith, length_keep non_empty x))
 

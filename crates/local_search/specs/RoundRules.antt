@@ -3,7 +3,7 @@ use Prim.Native.Nat.{ℕ, zero, suc}
 use Rattle.std.specs.Prelude.{◌≡◌}
 use Rattle.std.proofs.Math.Path.{refl}
 use mathlib.Core.List.{List, [], ◌∷◌}
-use Rattle.std.proofs.Math.Option.{Option, none, some}
+use Rattle.std.specs.Prelude.{Option, None, Some}
 use Rattle.route_order.specs.plan.Plan.{Plan, drop_empty}
 use Rattle.local_search.specs.declared.rounds.Counts.{Counts}
 use Rattle.local_search.specs.Rounds.{Tried, Result, Attempt, or_next, try_each, try_all, or_end, rounds}
@@ -11,10 +11,10 @@ use Rattle.local_search.specs.Rounds.{Tried, Result, Attempt, or_next, try_each,
 module _ (attempt : Attempt) where
   -- I holds of the routes left to try and the counts, before each attempt; O of the first attempt that is accepted, or of the end
   pub try_rule : (I : List ℕ → Counts → Type 0) (O : Tried → Type 0) (routes : Plan)
-      → ((n : Counts) → I [] n → O (record { plan = none; counts = n }))
-      → ((r : ℕ) (rs : List ℕ) (n : Counts) → I (r ∷ rs) n → (attempt routes r n).plan ≡ none → I rs (attempt routes r n).counts)
-      → ((r : ℕ) (rs : List ℕ) (n : Counts) (x : Plan) → I (r ∷ rs) n → (attempt routes r n).plan ≡ some x
-      → O (record { plan = some x; counts = (attempt routes r n).counts }))
+      → ((n : Counts) → I [] n → O (record { plan = None; counts = n }))
+      → ((r : ℕ) (rs : List ℕ) (n : Counts) → I (r ∷ rs) n → (attempt routes r n).plan ≡ None → I rs (attempt routes r n).counts)
+      → ((r : ℕ) (rs : List ℕ) (n : Counts) (x : Plan) → I (r ∷ rs) n → (attempt routes r n).plan ≡ Some x
+      → O (record { plan = Some x; counts = (attempt routes r n).counts }))
       → (rs : List ℕ) (n : Counts) → I rs n → O (try_each attempt routes rs n)
   unfolding try_each or_next
   try_rule I O routes none_left refused accepted [] n i = none_left n i
@@ -25,14 +25,14 @@ module _ (attempt : Attempt) where
 
       go : (o : Option Plan) → t.plan ≡ o → ((m : Counts) → I rs m → O (try_each attempt routes rs m))
           → O (or_next (λ m. try_each attempt routes rs m) o t.counts)
-      go none e rest = rest t.counts (refused r rs n i e)
-      go (some x) e rest = accepted r rs n x i e
+      go None e rest = rest t.counts (refused r rs n i e)
+      go (Some x) e rest = accepted r rs n x i e
 
   -- I left holds of the routes and the counts where that many rounds are left; O of what the rounds end with
   pub rounds_rule : (I : ℕ → Plan → Counts → Type 0) (O : Result → Type 0)
       → ((left : ℕ) (routes : Plan) (n : Counts) → I left routes n → O (record { plan = routes; counts = n }))
       → ((left : ℕ) (routes : Plan) (n : Counts) → I (suc left) routes n → O (record { plan = routes; counts = (try_all attempt routes n).counts }))
-      → ((left : ℕ) (routes : Plan) (n : Counts) (x : Plan) → I (suc left) routes n → (try_all attempt routes n).plan ≡ some x
+      → ((left : ℕ) (routes : Plan) (n : Counts) (x : Plan) → I (suc left) routes n → (try_all attempt routes n).plan ≡ Some x
       → I left (drop_empty x) (try_all attempt routes n).counts)
       → (left : ℕ) (routes : Plan) (n : Counts) → I left routes n → O (rounds attempt left routes n)
   unfolding rounds or_end
@@ -44,28 +44,28 @@ module _ (attempt : Attempt) where
 
       go : (o : Option Plan) → t.plan ≡ o → ((plan : Plan) (m : Counts) → I left plan m → O (rounds attempt left plan m))
           → O (or_end (λ plan m. rounds attempt left plan m) routes o t.counts)
-      go none e rest = end left routes n i
-      go (some x) e rest = rest (drop_empty x) t.counts (again left routes n x i e)
+      go None e rest = end left routes n i
+      go (Some x) e rest = rest (drop_empty x) t.counts (again left routes n x i e)
 
 -- ---- one turn as an equation, for the invariants of the code's loops
 
 module _ (attempt : Attempt) (routes : Plan) where
-  pub try_next : (r : ℕ) (rs : List ℕ) (n : Counts) → (attempt routes r n).plan ≡ none
+  pub try_next : (r : ℕ) (rs : List ℕ) (n : Counts) → (attempt routes r n).plan ≡ None
       → try_each attempt routes (r ∷ rs) n ≡ try_each attempt routes rs (attempt routes r n).counts
   unfolding try_each or_next
   try_next r rs n e = rw e
 
-  pub try_taken : (r : ℕ) (rs : List ℕ) (n : Counts) (x : Plan) → (attempt routes r n).plan ≡ some x
-      → try_each attempt routes (r ∷ rs) n ≡ record { plan = some x; counts = (attempt routes r n).counts }
+  pub try_taken : (r : ℕ) (rs : List ℕ) (n : Counts) (x : Plan) → (attempt routes r n).plan ≡ Some x
+      → try_each attempt routes (r ∷ rs) n ≡ record { plan = Some x; counts = (attempt routes r n).counts }
   unfolding try_each or_next
   try_taken r rs n x e = rw e
 
-  pub rounds_more : (left : ℕ) (n : Counts) (x : Plan) → (try_all attempt routes n).plan ≡ some x
+  pub rounds_more : (left : ℕ) (n : Counts) (x : Plan) → (try_all attempt routes n).plan ≡ Some x
       → rounds attempt (suc left) routes n ≡ rounds attempt left (drop_empty x) (try_all attempt routes n).counts
   unfolding rounds or_end
   rounds_more left n x e = rw e
 
-  pub rounds_end : (left : ℕ) (n : Counts) → (try_all attempt routes n).plan ≡ none
+  pub rounds_end : (left : ℕ) (n : Counts) → (try_all attempt routes n).plan ≡ None
       → rounds attempt (suc left) routes n ≡ record { plan = routes; counts = (try_all attempt routes n).counts }
   unfolding rounds or_end
   rounds_end left n e = rw e

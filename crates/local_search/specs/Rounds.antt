@@ -1,6 +1,6 @@
 -- The rounds that both searches share: attempts to do without a route, the shortest first, begun again as soon as one is accepted. Assumes nothing.
 use Rattle.std.specs.Prelude.{ℕ, zero, suc, List, [], ◌∷◌, length}
-use Rattle.std.proofs.Math.Option.{Option, none, some}
+use Rattle.std.specs.Prelude.{Option, None, Some}
 use Rattle.route_order.specs.plan.Plan.{Plan, lengths_of, drop_empty}
 use Rattle.route_order.specs.Order.{order}
 use Rattle.local_search.specs.declared.rounds.Counts.{Counts}
@@ -23,12 +23,12 @@ Attempt = Plan → ℕ → Counts → Tried
 
 -- what was accepted, or what comes next
 unfoldable pub or_next : (Counts → Tried) → Option Plan → Counts → Tried
-or_next next none n = next n
-or_next next (some plan) n = record { plan = some plan; counts = n }
+or_next next None n = next n
+or_next next (Some plan) n = record { plan = Some plan; counts = n }
 
 -- `for r in order`: the first attempt that is accepted
 unfoldable pub try_each : Attempt → Plan → List ℕ → Counts → Tried
-try_each attempt routes [] n = record { plan = none; counts = n }
+try_each attempt routes [] n = record { plan = None; counts = n }
 try_each attempt routes (r ∷ rs) n =
     let t = attempt routes r n in
     or_next (λ m. try_each attempt routes rs m) t.plan t.counts
@@ -39,8 +39,8 @@ try_all attempt routes n = try_each attempt routes (order (lengths_of routes)) n
 
 -- `continue 'search`, or the end
 unfoldable pub or_end : (Plan → Counts → Result) → Plan → Option Plan → Counts → Result
-or_end again routes none n = record { plan = routes; counts = n }
-or_end again routes (some plan) n = again (drop_empty plan) n
+or_end again routes None n = record { plan = routes; counts = n }
+or_end again routes (Some plan) n = again (drop_empty plan) n
 
 -- "The round starts again from the shortest route as soon as one is accepted; a round with none ends the call." An accepted attempt leaves a
 -- route fewer (`Better`), so there are at most as many rounds as routes.

@@ -9,7 +9,6 @@ ghost use Rattle.ejection_made.specs.Made.{stack, Made};
 use ejection_made::{Ejection, make_one, make_two};
 
 // Of the crates below, passed on to those above.
-pub use ejection_made::EjectionBest;
 pub use random_moves::{eject, perturb};
 
 // The ejection is made for c. Returns how many the pool has then.

@@ -1,6 +1,7 @@
 -- minimise: what a refused call leaves, what an accepted one may rely on and what it answers. Assumes nothing.
 use Prim.Native.Nat.{ℕ}
-use mathlib.Core.Path.{◌≡◌, ap}
+use mathlib.Core.Path.{◌≡◌, sym, ap}
+use Rattle.std.specs.Prelude.{None, Some}
 use mathlib.Core.List.{List}
 use native.Mathlib.Omega.{arith}
 use lib.ListN.{length}
@@ -13,38 +14,37 @@ use Rattle.route_minimization.specs.minimization.Minimize.{minimize_routes}
 use Rattle.route_minimization.specs.minimization_search.Minimizing.{Searching}
 use Rattle.route_minimization.specs.ejection_pool.Running.{allowance}
 use Rattle.refusals.specs.entry.Table.{Work, refusal}
-use Rattle.refusals.specs.entry.Given.{numbered, minimise_inputs}
-use Rattle.refusals.specs.EntryAdmittedLaws.{not_refused, minimise_accepted}
+use Rattle.refusals.specs.entry.Given.{minimise_inputs}
+use Rattle.refusals.specs.EntryAdmittedLaws.{minimise_accepted}
 use Rattle.planner.specs.Calls.{refused, answered, Reply, plan_in, public_minimise}
 use Rattle.planner.specs.Told.{work_of}
 use Rattle.planner.proofs.CallLaws.{reply_refused, reply_answered}
 
-module _ (p : Problem) (s : Slices) (r : ℕ) where
-  module _ (tape : List ℕ) (limit : ℕ) (w : Work) (e : numbered r ≡ refusal (minimise_inputs p s tape limit w)) where
-    pub minimise_refused : (r ≡ 0 → ⊥) → (clock : ℕ)
-        → ◌≡◌ {A = Reply} (record { answer = refused r; slices = s }) (public_minimise p s (allowance limit clock tape) w)
+module _ (p : Problem) (s : Slices) (tape : List ℕ) (limit : ℕ) (w : Work) where
+  pub minimise_refused : (n clock : ℕ) → Some n ≡ refusal (minimise_inputs p s tape limit w)
+      → ◌≡◌ {A = Reply} (record { answer = refused n; slices = s }) (public_minimise p s (allowance limit clock tape) w)
+  unfolding public_minimise
+  minimise_refused n clock e = reply_refused n _ s _ e
+
+  module _ (e : None ≡ refusal (minimise_inputs p s tape limit w)) where
+    pub minimise_searches : (work : List ℕ) (cells : List Float) → w ≡ work_of (length work) (length cells)
+        → Searching p tape limit s.lengths s.stops work cells
+    minimise_searches work cells f =
+        let a = minimise_accepted p s w tape limit (sym e) in
+        record {
+          admitted = a.0.admitted;
+          drawable = a.1.words;
+          limited = a.1.steps;
+          whole = a.0.sum;
+          few = a.0.few;
+          routes_few = a.0.routes;
+          planned = a.0.planned;
+          work_room = omega (arith, a.1.enough.u16_there, ap (λ (x : Work). x.u16_cells) f);
+          cells_room = omega (arith, a.1.enough.f64_there, ap (λ (x : Work). x.f64_cells) f);
+        }
+
+    pub minimise_answers : (clock : ℕ) (d : Reduction) (t : Slices)
+        → Answers (minimize_routes (allowance limit clock tape) p (plan_in s)) (length s.lengths) d.routes d.counts t.lengths t.stops
+        → ◌≡◌ {A = Reply} (record { answer = answered d; slices = t }) (public_minimise p s (allowance limit clock tape) w)
     unfolding public_minimise
-    minimise_refused h clock = reply_refused r _ s _ e h
-
-    module _ (h : r ≡ 0) where
-      pub minimise_searches : (work : List ℕ) (cells : List Float) → w ≡ work_of (length work) (length cells)
-          → Searching p tape limit s.lengths s.stops work cells
-      minimise_searches work cells f =
-          let a = minimise_accepted p s w tape limit (not_refused r _ e h) in
-          record {
-            admitted = a.0.admitted;
-            drawable = a.1.words;
-            limited = a.1.steps;
-            whole = a.0.sum;
-            few = a.0.few;
-            routes_few = a.0.routes;
-            planned = a.0.planned;
-            work_room = omega (arith, a.1.enough.u16_there, ap (λ (x : Work). x.u16_cells) f);
-            cells_room = omega (arith, a.1.enough.f64_there, ap (λ (x : Work). x.f64_cells) f);
-          }
-
-      pub minimise_answers : (clock : ℕ) (d : Reduction) (t : Slices)
-          → Answers (minimize_routes (allowance limit clock tape) p (plan_in s)) (length s.lengths) d.routes d.counts t.lengths t.stops
-          → ◌≡◌ {A = Reply} (record { answer = answered d; slices = t }) (public_minimise p s (allowance limit clock tape) w)
-      unfolding public_minimise
-      minimise_answers clock d t a = reply_answered r _ s t _ d e h a
+    minimise_answers clock d t a = reply_answered _ s t _ d e a

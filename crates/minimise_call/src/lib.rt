@@ -11,7 +11,7 @@ use refusals::calls::minimise_refusal;
 use route_minimization::minimize_routes;
 
 // Of the crates below, passed on to those above.
-pub use planner::calls::Replied;
+pub use planner::{Reduction, Refusal};
 pub use route_minimization::Vehicle;
 
 // Fewer routes by an ejection pool, with at most `limit` steps in an attempt, draws from the tape, and a clock that stops at the asking after the first
@@ -34,14 +34,14 @@ pub fn minimise(
     distances: &[f64],
     times: &[f64],
     vehicle: Vehicle,
-) -> Replied
+) -> Result<Reduction, Refusal>
     ensures reply { reply_of result lengths.new stops.new ≡ public_minimise (problem n demand.now service.now ready.now due.now penalty.now flags.now
         distances.now times.now vehicle)
         (slices_of lengths.old stops.old) (allowance limit clock tape.now) (work_of (length work.old) (length cells.old)) }
     ensures work { FreeIfAnswered result work.old work.new }
     ensures cells { FreeIfAnswered result cells.old cells.new }
 {
-    let r = minimise_refusal(
+    minimise_refusal(
         lengths,
         stops,
         n,
@@ -58,10 +58,7 @@ pub fn minimise(
         limit,
         work.len(),
         cells.len(),
-    );
-    if r != 0 {
-        return Replied::Refused(r); // before the first draw
-    }
+    )?; // before the first draw
     let done = minimize_routes(
         lengths,
         stops,
@@ -81,5 +78,5 @@ pub fn minimise(
         penalty,
         flags,
     );
-    Replied::Answered(done)
+    Ok(done)
 }

@@ -1,10 +1,8 @@
 -- Two small plans that the pool reduces by ejections, with the answers of a run of the original: what the laws leave open (which stop leaves, who is
 -- popped next, how many words a move takes) is pinned here by computation. Assumes nothing.
-use Rattle.std.specs.Prelude.{ℕ, ◌≡◌, refl, List, [], ◌∷◌, map, length, replicate, ℤ, pos, Float}
+use Rattle.std.specs.Prelude.{ℕ, ◌≡◌, refl, List, [], ◌∷◌, map, length, replicate, ℤ, pos, Float, None}
 use Rattle.std.specs.Float.{binary64}
 use Rattle.std.specs.Float.Ieee.{of_int}
-use Rattle.pool_cost.specs.models.declared.vehicle.Limit.TheVariants.{None as NoLimit}
-use Rattle.pool_cost.specs.models.declared.vehicle.Rest.TheVariants.{None as NoRest}
 use Rattle.pool_cost.specs.models.declared.vehicle.Vehicle.{Vehicle}
 use Rattle.pool_cost.specs.models.Problem.{Problem, problem}
 use Rattle.pool_cost.specs.plan.Plan.{Plan}
@@ -20,7 +18,7 @@ num n = of_int binary64 (pos n)
 -- a vehicle of a capacity with no limits and no fixed cost, at depot 0
 abbrev van : ℕ → Vehicle
 van capacity =
-    record { capacity = pos capacity; depot_id = 0; fixed_cost = num 0; cost_per_distance = num 1; max_distance = NoLimit; max_duration = NoLimit; rest = NoRest }
+    record { capacity = pos capacity; depot_id = 0; fixed_cost = num 0; cost_per_distance = num 1; max_distance = None; max_duration = None; rest = None }
 
 -- n places with demands and distances, and nothing else
 abbrev loads : ℕ → ℕ → List ℕ → List ℕ → Problem

@@ -1,12 +1,9 @@
 -- The definitions computed on small plans: what a slip in them would change. Assumes nothing.
-use Rattle.std.specs.Prelude.{ℕ, ◌≡◌, refl, true, false, List, [], ◌∷◌, replicate, pos, Float}
-use Rattle.std.proofs.Math.Option.{some}
+use Rattle.std.specs.Prelude.{ℕ, ◌≡◌, refl, true, false, List, [], ◌∷◌, replicate, pos, Float, Option, Some, None}
+use Rattle.std.specs.Prelude.{Some}
 use Rattle.std.specs.Float.{binary64}
 use Rattle.std.specs.Float.Ieee.{of_bits, of_int}
 use Rattle.pool_cost.specs.floats.Binary64.{+∞, -∞}
-use Rattle.pool_cost.specs.models.declared.vehicle.Limit.{Limit}
-use Rattle.pool_cost.specs.models.declared.vehicle.Limit.TheVariants.{None as NoLimit, At as LimitAt}
-use Rattle.pool_cost.specs.models.declared.vehicle.Rest.TheVariants.{None as NoRest}
 use Rattle.pool_cost.specs.models.declared.vehicle.Vehicle.{Vehicle}
 use Rattle.pool_cost.specs.models.Problem.{Problem, problem}
 use Rattle.pool_cost.specs.plan.Plan.{Plan}
@@ -20,7 +17,7 @@ use Rattle.minimization.specs.Opened.{opened}
 abbrev num : ℕ → Float
 num n = of_int binary64 (pos n)
 
-abbrev van : Limit → Vehicle
+abbrev van : Option Float → Vehicle
 van most =
     record {
       capacity = pos 10;
@@ -28,8 +25,8 @@ van most =
       fixed_cost = num 0;
       cost_per_distance = num 1;
       max_distance = most;
-      max_duration = NoLimit;
-      rest = NoRest;
+      max_duration = None;
+      rest = None;
     }
 
 -- M, K and a tape
@@ -41,7 +38,7 @@ counted steps draws = record { steps = steps; draws = draws }
 
 -- ---- the sheet's problem: two stops of demands 4 and 5
 
-sheet : Limit → Problem
+sheet : Option Float → Problem
 sheet most =
     problem 3 (pos 0 ∷ pos 4 ∷ pos 5 ∷ []) (replicate 3 (num 0)) (replicate 3 (num 0)) (replicate 3 (num 0)) (replicate 3 (num 0)) (0 ∷ 0 ∷ 0 ∷ [])
     (num 0 ∷ num 10 ∷ num 10 ∷ num 10 ∷ num 0 ∷ num 5 ∷ num 10 ∷ num 5 ∷ num 0 ∷ []) [] (van most)
@@ -50,16 +47,16 @@ two_routes : Plan
 two_routes = (1 ∷ []) ∷ (2 ∷ []) ∷ []
 
 -- case 9: each stop of the shorter route is inserted, and the round after it tries the route that is left
-emptied : minimize_routes (with 5 5 (7 ∷ [])) (sheet NoLimit) two_routes ≡ record { plan = (1 ∷ 2 ∷ []) ∷ []; counts = counted 2 0 }
+emptied : minimize_routes (with 5 5 (7 ∷ [])) (sheet None) two_routes ≡ record { plan = (1 ∷ 2 ∷ []) ∷ []; counts = counted 2 0 }
 unfolding opened sheet two_routes
 emptied = refl
 
 -- case 11: five steps an attempt, and the clock is not asked at the limit
-stopped_early : minimize_routes (with 5 5 (7 ∷ [])) (sheet (LimitAt (num 24))) two_routes ≡ record { plan = two_routes; counts = counted 5 0 }
+stopped_early : minimize_routes (with 5 5 (7 ∷ [])) (sheet (Some (num 24))) two_routes ≡ record { plan = two_routes; counts = counted 5 0 }
 unfolding opened sheet two_routes
 stopped_early = refl
 
-stopped_late : minimize_routes (with 5 10 (7 ∷ [])) (sheet (LimitAt (num 24))) two_routes ≡ record { plan = two_routes; counts = counted 10 0 }
+stopped_late : minimize_routes (with 5 10 (7 ∷ [])) (sheet (Some (num 24))) two_routes ≡ record { plan = two_routes; counts = counted 10 0 }
 unfolding opened sheet two_routes
 stopped_late = refl
 
@@ -81,14 +78,14 @@ windows =
     problem 4 (replicate 4 (pos 0)) (replicate 4 (num 0)) (num 0 ∷ tenth ∷ num 0 ∷ num 0 ∷ []) (num 0 ∷ num 1 ∷ eight_tenths ∷ num 0 ∷ []) (replicate 4 (num 0))
     (0 ∷ 1 ∷ 1 ∷ 0 ∷ [])
     (num 0 ∷ num 0 ∷ num 1 ∷ num 0 ∷ num 0 ∷ num 0 ∷ seven_tenths ∷ num 0 ∷ num 1 ∷ num 1 ∷ num 0 ∷ num 1 ∷ num 0 ∷ num 0 ∷ num 1 ∷ num 0 ∷ [])
-    [] (van NoLimit)
+    [] (van None)
 
 -- 0.1 + 0.7 − 0.7 is below 0.1, so no arrival at stop 1 is in time, by the bound
 bounds : latest_arrivals windows.places windows.roads 0 (1 ∷ 2 ∷ []) ≡ -∞ ∷ eight_tenths ∷ []
 unfolding opened windows
 bounds = refl
 
-left_at : departures windows.places windows.roads 0 (1 ∷ 2 ∷ []) ≡ some (tenth ∷ eight_tenths ∷ [])
+left_at : departures windows.places windows.roads 0 (1 ∷ 2 ∷ []) ≡ Some (tenth ∷ eight_tenths ∷ [])
 unfolding opened windows
 left_at = refl
 

@@ -4,7 +4,7 @@ use Rattle.std.specs.Prelude.{ℕ, ◌<◌, ◌≡◌, true, List, ◌⊎◌}
 use Rattle.std.proofs.Math.Path.{refl}
 use Rattle.std.proofs.Common.{ap, subst, ◌∙◌, inr, ⊎_elim, arith}
 use Rattle.std.proofs.Math.Logic.{inl}
-use Rattle.std.proofs.Math.Option.{Option, none, some}
+use Rattle.std.specs.Prelude.{Option, None, Some}
 use Rattle.std.proofs.Math.ListN.{length}
 use Rattle.std.specs.Float.Ieee.{lt}
 use Rattle.pool_cost.specs.floats.Order.{lt_lt_true}
@@ -50,8 +50,8 @@ module _ (given : Allowance) (p : Problem) where
       (each_bind (λ x. Unit) (Less routes) _ (if_cheaper p (cost p routes)) (λ x _. cheaper_less routes x) (anything (empty_into given p (erase r routes) (route r routes) n).plan))
     where
       anything : (o : Option Plan) → Each (λ x. Unit) o
-      anything none = tt
-      anything (some x) = tt
+      anything None = tt
+      anything (Some x) = tt
 
   -- ---- the rounds
 

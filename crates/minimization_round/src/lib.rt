@@ -15,7 +15,7 @@ ghost use Rattle.minimization.specs.ejection_pool.Running.{allowance};
 ghost use Rattle.route_attempt.specs.route_without.Attempting.{Attempting};
 
 use minimization::{LocalSearchNext as Next, next_pick, plan_cost};
-use route_attempt::{Attempted, attempt, drop_empty};
+use route_attempt::{attempt, drop_empty};
 
 // Of the crates below, passed on to those above.
 pub use minimization::{
@@ -71,7 +71,7 @@ pub fn try_next(
     work: &mut [u16],
     cells: &mut [f64],
     tape: &[u64],
-    last: Pick,
+    last: Option<Pick>,
     before: f64,
     limit: usize,
     clock: u64,
@@ -98,16 +98,15 @@ pub fn try_next(
         (split lengths.old stops.old) (following lengths.old last) counted }
     ensures held { NextLeaves limit n lengths.old stops.old last counted result lengths.new stops.new }
 {
-    let pick = next_pick(lengths, last);
-    let Pick::At(r, _) = pick else {
+    let Some(pick) = next_pick(lengths, last) else {
         return Next::End;
     };
     let tried = attempt(
-        lengths, stops, work, cells, tape, r, before, limit, clock, counted, needed, vehicle,
-        demand, n, distances, times, service, ready, due, penalty, flags,
+        lengths, stops, work, cells, tape, pick.route, before, limit, clock, counted, needed,
+        vehicle, demand, n, distances, times, service, ready, due, penalty, flags,
     );
     match tried {
-        Attempted::Kept(counts) => Next::Kept(pick, counts),
-        Attempted::Accepted(counts) => Next::Accepted(counts),
+        Err(counts) => Next::Kept(pick, counts),
+        Ok(counts) => Next::Accepted(counts),
     }
 }

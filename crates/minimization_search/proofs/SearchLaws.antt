@@ -3,6 +3,7 @@ use Prim.Native.Nat.{ℕ, ◌*◌, ◌≤◌, ◌<◌}
 use mathlib.Core.Path.{◌≡◌}
 use mathlib.Core.Bool.{Bool}
 use mathlib.Core.List.{List}
+use Rattle.std.proofs.Common.{Option}
 use native.Mathlib.Nat.{mul-le-mul_right}
 use native.Mathlib.Omega.{arith}
 use lib.ListN.{length, take}
@@ -24,7 +25,7 @@ most_steps limit h =
     let t : triangle 256 ≡ 32896 = omega (arith, triangle_is 256) in
     rw t (mul-le-mul_right 32896 h)
 
-module _ (given : Allowance) (p : Problem) {ls₁ s₁ : List ℕ} {n₁ : Counts} {count : ℕ} {ls s : List ℕ} {n : Counts} {last : Pick}
+module _ (given : Allowance) (p : Problem) {ls₁ s₁ : List ℕ} {n₁ : Counts} {count : ℕ} {ls s : List ℕ} {n : Counts} {last : Option Pick}
     (g : Trying (attempt given p) given.limit p.roads.size ls₁ s₁ n₁ count ls s n last) where
   pub trying_attempt : (tape : List ℕ) (needed : Bool) (work : List ℕ) (cells : List Float) → Admitted p
       → needed ≡ route_checks_needed p.places.flags (limits_of p.vehicle) → 0 < length tape → given.limit ≤ 65535 → 767 ≤ length work → 512 ≤ length cells

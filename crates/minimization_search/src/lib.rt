@@ -49,7 +49,7 @@ pub fn search(
     'search: loop {
         let round = begin(lengths, stops, vehicle, n, distances);
         let count = round.count;
-        let mut last = Pick::Nothing;
+        let mut last: Option<Pick> = None;
         loop {
             let next = try_next(
                 &mut lengths[..count],
@@ -82,7 +82,7 @@ pub fn search(
                     };
                 }
                 Next::Kept(pick, tried) => {
-                    last = pick;
+                    last = Some(pick);
                     counts = tried;
                 }
                 Next::Accepted(tried) => {

@@ -1,4 +1,3 @@
 -- Laws that this crate's proofs cite, and those that say what a valid problem gives.
-pub mod LimitLaws
 -- what a valid problem gives
 pub mod ValidLaws

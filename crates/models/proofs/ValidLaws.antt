@@ -1,25 +1,21 @@
 -- What a valid problem gives: slices of the right lengths, a depot that is a place, and every float an amount (finite, sign clear, at most 1e12).
 -- That the floats are values of binary64, which every f64 is, is a hypothesis here, since a definition's `Float` may have more digits. Assumes nothing.
-use Prim.Native.Nat.{ℕ, ◌+◌, ◌*◌, ◌≤◌, ◌<◌}
+use Prim.Native.Nat.{ℕ, ◌*◌, ◌≤◌, ◌<◌}
 use native.Mathlib.Omega.{arith}
-use mathlib.Core.Path.{◌≡◌, refl, sym, ap, subst, ◌∙◌}
-use mathlib.Core.Bool.{Bool, true, false, true≢false, false≢true, cond, not, ◌&&◌, ◌||◌}
+use mathlib.Core.Path.{◌≡◌, refl, sym, ap, ◌∙◌}
+use mathlib.Core.Bool.{Bool, true, false, false≢true, cond, not, ◌&&◌, ◌||◌}
 use mathlib.Core.List.{List}
 use mathlib.Core.Logic.{◌⊎◌, inl, inr}
 use lib.ListN.{length, get_or, get_or-eq_default}
-use lib.Dec.{T, eqb, leb, ltb}
-use lib.Ieee.{Float, nan, inf, fin, binary64, lt, le, fits}
+use lib.Dec.{eqb, leb, ltb}
+use lib.Ieee.{Float, nan, inf, fin, binary64, fits}
 use lib.IntN.{ℤ, pos, negsuc, nat_abs}
 use borrow.Author.Tests.{eqb-true, leb-true, ltb-true, ltb-false}
-use Rattle.float_functions.specs.floats.Binary64.{1e12, is_sign_negative}
+use Rattle.float_functions.specs.floats.Binary64.{is_sign_negative}
 use Rattle.float_functions.specs.floats.Inputs.{Amount, amount_of}
 use Rattle.float_functions.specs.laws.Searches.{and_first, and_second, every, every_at}
-use Rattle.models.specs.declared.vehicle.Limit.{Limit}
-use Rattle.models.specs.declared.vehicle.Limit.TheVariants.{None as NoLimit, At as LimitAt}
-use Rattle.models.specs.declared.vehicle.Rest.{Rest}
-use Rattle.models.specs.declared.vehicle.Rest.TheVariants.{None as NoRest, Break}
-use Rattle.models.specs.Customer.{Customers, Sized, windowed, penalised}
-use Rattle.models.specs.Problem.{DistanceMatrix, Problem, Square, Fit, Demands, depot}
+use Rattle.models.specs.Customer.{Sized, windowed, penalised}
+use Rattle.models.specs.Problem.{Problem, Square, Fit, Demands, depot}
 use Rattle.models.specs.Valid.{count_passes, cells_pass, matrix_passes, sizes_pass, is_amount, amounts_pass, window_passes, penalty_passes, demand_passes, place_passes, vehicle_passes, values_pass, windows_pass, depot_passes, valid}
 
 -- ---- a test on one float

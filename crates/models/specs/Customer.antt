@@ -1,11 +1,7 @@
 -- The places' records, lent as a slice for each field (models/customer.rs, `Customer`). Assumes nothing.
-use Rattle.std.specs.Prelude.{ℕ, ◌/◌, ◌%◌, ◌≡◌, List, Bool, cond, length, get_or, eqb, Float}
+use Rattle.std.specs.Prelude.{ℕ, ◌/◌, ◌%◌, ◌≡◌, List, Bool, cond, length, get_or, eqb, Float, Option, Some, None}
 use Rattle.std.specs.Float.{nan}
 use Rattle.models.specs.declared.customer.TimeWindow.{TimeWindow}
-use Rattle.models.specs.declared.customer.Window.{Window}
-use Rattle.models.specs.declared.customer.Window.TheVariants.{None as NoWindow, Is as WindowIs}
-use Rattle.models.specs.declared.customer.Penalty.{Penalty}
-use Rattle.models.specs.declared.customer.Penalty.TheVariants.{None as NoPenalty, Of as PenaltyOf}
 use Rattle.models.specs.declared.customer.Customer.{Customer}
 
 -- what the evaluation of a route reads of the places
@@ -34,11 +30,11 @@ windowed flag = eqb (flag % 2) 1
 abbrev pub penalised : ℕ → Bool
 penalised flag = eqb (flag / 2 % 2) 1
 
-abbrev pub window_at : List Float → List Float → List ℕ → ℕ → Window
-window_at ready due flags c = cond (windowed (get_or flags c 0)) (WindowIs (record { ready = get_or ready c nan; due = get_or due c nan })) NoWindow
+abbrev pub window_at : List Float → List Float → List ℕ → ℕ → Option TimeWindow
+window_at ready due flags c = cond (windowed (get_or flags c 0)) (Some (record { ready = get_or ready c nan; due = get_or due c nan })) None
 
-abbrev pub penalty_at : List Float → List ℕ → ℕ → Penalty
-penalty_at penalty flags c = cond (penalised (get_or flags c 0)) (PenaltyOf (get_or penalty c nan)) NoPenalty
+abbrev pub penalty_at : List Float → List ℕ → ℕ → Option Float
+penalty_at penalty flags c = cond (penalised (get_or flags c 0)) (Some (get_or penalty c nan)) None
 
 -- place c as one value
 abbrev pub customer_at : Customers → ℕ → Customer

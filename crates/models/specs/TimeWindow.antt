@@ -1,15 +1,13 @@
 -- A time window (models/customer.rs, `TimeWindow`), for every f64. Assumes nothing.
-use Rattle.std.specs.Prelude.{Bool, true, false, cond, ◌&&◌, Float}
+use Rattle.std.specs.Prelude.{Bool, cond, ◌&&◌, Float, Option, Some, None}
 use Rattle.std.specs.Float.Ieee.{lt, le}
 use Rattle.float_functions.specs.floats.Binary64.{◌⊖◌, 0f, is_finite, max}
 use Rattle.models.specs.declared.customer.TimeWindow.{TimeWindow}
-use Rattle.models.specs.declared.customer.Window.{Window}
-use Rattle.models.specs.declared.customer.Window.TheVariants.{None as NoWindow, Is as WindowIs}
 
 -- TimeWindow::new: two finite numbers, ready not above due
-abbrev pub time_window_new : Float → Float → Window
+abbrev pub time_window_new : Float → Float → Option TimeWindow
 time_window_new ready due =
-    cond (is_finite ready) (cond (is_finite due) (cond (lt due ready) NoWindow (WindowIs (record { ready = ready; due = due }))) NoWindow) NoWindow
+    cond (is_finite ready) (cond (is_finite due) (cond (lt due ready) None (Some (record { ready = ready; due = due }))) None) None
 
 -- TimeWindow::contains: ready ≤ time ≤ due
 abbrev pub contains : TimeWindow → Float → Bool

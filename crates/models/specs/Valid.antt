@@ -1,14 +1,11 @@
 -- What makes a problem valid: the tests of rows 1 to 4 of the refusal table, each true where its row does not apply. Assumes nothing.
-use Rattle.std.specs.Prelude.{ℕ, ◌*◌, List, [], Bool, true, false, cond, not, ◌&&◌, ◌||◌, length, get_or, eqb, leb, ltb, ℤ, pos, negsuc, Float}
-use Rattle.std.specs.Int.Signed.{lt_z, le_z}
+use Rattle.std.specs.Prelude.{ℕ, ◌*◌, List, Bool, true, false, cond, not, ◌&&◌, ◌||◌, length, get_or, eqb, leb, ltb, ℤ, pos, negsuc, Float, Option, Some, None}
+use Rattle.std.specs.Int.Signed.{le_z}
 use Rattle.std.specs.Float.{nan, inf, fin}
 use Rattle.std.specs.Float.Ieee.{lt, le}
 use Rattle.float_functions.specs.floats.Binary64.{0f, 1e-6, 1e12}
 use Rattle.float_functions.specs.laws.Searches.{every}
-use Rattle.models.specs.declared.vehicle.Limit.{Limit}
-use Rattle.models.specs.declared.vehicle.Limit.TheVariants.{None as NoLimit, At as LimitAt}
-use Rattle.models.specs.declared.vehicle.Rest.{Rest}
-use Rattle.models.specs.declared.vehicle.Rest.TheVariants.{None as NoRest, Break}
+use Rattle.models.specs.declared.vehicle.VehicleBreak.{VehicleBreak}
 use Rattle.models.specs.declared.vehicle.Vehicle.{Vehicle}
 use Rattle.models.specs.Customer.{Customers, windowed, penalised}
 use Rattle.models.specs.Problem.{DistanceMatrix, Problem, depot}
@@ -58,13 +55,13 @@ abbrev pub place_passes : List ℤ → Customers → ℕ → Bool
 place_passes demand cs c =
     leb (get_or cs.flags c 0) 3 && (window_passes cs c && (penalty_passes cs c && demand_passes (get_or demand c (pos 0))))
 
-abbrev pub limit_passes : Limit → Bool
-limit_passes NoLimit = true
-limit_passes (LimitAt most) = is_amount most
+abbrev pub limit_passes : Option Float → Bool
+limit_passes None = true
+limit_passes (Some most) = is_amount most
 
-abbrev pub rest_passes : Rest → Bool
-rest_passes NoRest = true
-rest_passes (Break earliest latest duration) = is_amount earliest && (is_amount latest && is_amount duration)
+abbrev pub rest_passes : Option VehicleBreak → Bool
+rest_passes None = true
+rest_passes (Some rest) = is_amount rest.earliest && (is_amount rest.latest && is_amount rest.duration)
 
 -- "cost per distance is above 0 and below 1e-6"
 abbrev pub cost_passes : Float → Bool

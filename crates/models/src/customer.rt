@@ -11,53 +11,31 @@ pub struct TimeWindow {
     pub due: f64,
 }
 
-// `Option<TimeWindow>`.
-#[derive(Clone, Copy)]
-pub enum Window {
-    None,
-    Is(TimeWindow),
-}
-
-// The cost of one unit of lateness, `Option<f64>`. A window with a penalty is soft, one without is hard.
-#[derive(Clone, Copy)]
-pub enum Penalty {
-    None,
-    Of(f64),
-}
-
-// What the evaluation of a route reads of a place. (Its demand is read where loads are summed.)
+// What the evaluation of a route reads of a place. (Its demand is read where loads are summed.) A window with a penalty, the cost of one unit of lateness, is
+// soft; one without is hard.
 #[derive(Clone, Copy)]
 pub struct Customer {
     pub service_duration: f64,
-    pub time_window: Window,
-    pub lateness_penalty: Penalty,
+    pub time_window: Option<TimeWindow>,
+    pub lateness_penalty: Option<f64>,
 }
 
 impl TimeWindow {
     // A window of two finite numbers, `ready` not above `due`; none otherwise.
-    pub fn new(ready: f64, due: f64) -> Window
+    pub fn new(ready: f64, due: f64) -> Option<TimeWindow>
         ensures { result ≡ time_window_new ready due }
     {
-        if is_finite(ready) {
-            if is_finite(due) {
-                if ready > due {
-                    return Window::None;
-                }
-                return Window::Is(TimeWindow { ready, due });
-            }
+        if is_finite(ready) && is_finite(due) && !(ready > due) {
+            return Some(TimeWindow { ready, due });
         }
-        Window::None
+        None
     }
 
     // Whether `time` lies in the window, its two ends included.
     pub fn contains(self, time: f64) -> bool
         ensures { result ≡ contains self time }
     {
-        if time >= self.ready {
-            time <= self.due
-        } else {
-            false
-        }
+        time >= self.ready && time <= self.due
     }
 
     // The wait until the window opens, 0 from then on.

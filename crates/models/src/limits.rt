@@ -2,34 +2,31 @@
 ghost use Rattle.std.specs.Prelude.{◌≡◌};
 ghost use Rattle.models.specs.RouteLimits.{limits_of, is_unlimited, within, allow};
 
-use crate::vehicle::{Limit, Rest, Vehicle};
+use crate::vehicle::{Vehicle, VehicleBreak};
 
 #[derive(Clone, Copy)]
 pub struct RouteLimits {
-    pub max_distance: Limit,
-    pub max_duration: Limit,
-    pub rest: Rest,
+    pub max_distance: Option<f64>,
+    pub max_duration: Option<f64>,
+    pub rest: Option<VehicleBreak>,
 }
 
 impl RouteLimits {
     // Nothing is limited, and there is no break.
     pub const NONE: RouteLimits = RouteLimits {
-        max_distance: Limit::None,
-        max_duration: Limit::None,
-        rest: Rest::None,
+        max_distance: None,
+        max_duration: None,
+        rest: None,
     };
 
     // The limits that a vehicle sets.
     pub fn of(vehicle: Vehicle) -> RouteLimits
         ensures { result ≡ limits_of vehicle }
     {
-        let max_distance = vehicle.max_distance;
-        let max_duration = vehicle.max_duration;
-        let rest = vehicle.rest;
         RouteLimits {
-            max_distance,
-            max_duration,
-            rest,
+            max_distance: vehicle.max_distance,
+            max_duration: vehicle.max_duration,
+            rest: vehicle.rest,
         }
     }
 
@@ -37,41 +34,20 @@ impl RouteLimits {
     pub fn is_unlimited(self) -> bool
         ensures { result ≡ is_unlimited self }
     {
-        let most = self.max_distance;
-        let Limit::None = most else {
-            return false;
-        };
-        let latest = self.max_duration;
-        let Limit::None = latest else {
-            return false;
-        };
-        let rest = self.rest;
-        match rest {
-            Rest::None => true,
-            Rest::Break(_, _, _) => false,
-        }
+        self.max_distance.is_none() && self.max_duration.is_none() && self.rest.is_none()
     }
 
     // Whether a route of this distance that is back at the depot at `duration` keeps both limits. A limit met exactly is kept.
     pub fn allow(self, distance: f64, duration: f64) -> bool
         ensures { result ≡ allow self distance duration }
     {
-        let most = self.max_distance;
-        let latest = self.max_duration;
-        if within(most, distance) {
-            within(latest, duration)
-        } else {
-            false
-        }
+        within(self.max_distance, distance) && within(self.max_duration, duration)
     }
 }
 
-// Whether x keeps the limit.
-fn within(limit: Limit, x: f64) -> bool
+// Whether x keeps the limit, if there is one.
+fn within(limit: Option<f64>, x: f64) -> bool
     ensures { result ≡ within limit x }
 {
-    match limit {
-        Limit::None => true,
-        Limit::At(max) => x <= max,
-    }
+    limit.is_none_or(|most| x <= most)
 }

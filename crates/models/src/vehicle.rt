@@ -2,13 +2,6 @@
 ghost use Rattle.std.specs.Prelude.{◌≡◌};
 ghost use Rattle.models.specs.Vehicle.{vehicle_break_new, fixed_cost_in_distance};
 
-// A limit is none or a number: `Option<f64>`.
-#[derive(Clone, Copy)]
-pub enum Limit {
-    None,
-    At(f64),
-}
-
 // A rest of `duration` that starts no earlier than `earliest` and no later than `latest`, at a stop, before its service.
 #[derive(Clone, Copy)]
 pub struct VehicleBreak {
@@ -17,23 +10,16 @@ pub struct VehicleBreak {
     pub duration: f64,
 }
 
-// A break is none or its earliest start, latest start and duration: `Option<VehicleBreak>`.
-#[derive(Clone, Copy)]
-pub enum Rest {
-    None,
-    Break(f64, f64, f64),
-}
-
-// A vehicle: every route starts and ends at its depot. A route costs `fixed_cost + cost_per_distance × distance`.
+// A vehicle: every route starts and ends at its depot. A route costs `fixed_cost + cost_per_distance × distance`; it may have limits and a break.
 #[derive(Clone, Copy)]
 pub struct Vehicle {
     pub capacity: i32,
     pub depot_id: usize,
     pub fixed_cost: f64,
     pub cost_per_distance: f64,
-    pub max_distance: Limit,
-    pub max_duration: Limit,
-    pub rest: Rest,
+    pub max_distance: Option<f64>,
+    pub max_duration: Option<f64>,
+    pub rest: Option<VehicleBreak>,
 }
 
 impl VehicleBreak {

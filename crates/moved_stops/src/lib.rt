@@ -13,8 +13,8 @@ use stop_moves::{Move, move_stop, take_largest};
 
 // Of the crates below, passed on to those above.
 pub use stop_moves::{
-    Counts, LocalSearchNext, Pick, Reduction, Sum, Vehicle, constrained, has_soft_windows,
-    is_finite, next_pick, route_cost_gain_floor, worth,
+    Counts, LocalSearchNext, Pick, Reduction, Vehicle, constrained, has_soft_windows, is_finite,
+    next_pick, route_cost_gain_floor, worth,
 };
 
 // The first stop with the largest demand of the m that are left goes to its place.
@@ -37,7 +37,7 @@ fn move_next(
     due: &[f64],
     penalty: &[f64],
     flags: &[u8],
-) -> Sum
+) -> Option<f64>
     requires { Waiting (problem n demand.now service.now ready.now due.now penalty.now flags.now distances.now times.now vehicle) soft needed lengths.old stops.old left.old m × (0 < m) }
     ensures moved { held_by result (split lengths.new stops.new) ≡ move_stop (problem n demand.now service.now ready.now due.now penalty.now flags.now
         distances.now times.now vehicle) saved (so_far (split lengths.old stops.old) added)
@@ -47,11 +47,11 @@ fn move_next(
 {
     let c = take_largest(left, m, demand) as usize;
     let stop = Move {
-        c: c,
-        added: added,
-        saved: saved,
-        soft: soft,
-        needed: needed,
+        c,
+        added,
+        saved,
+        soft,
+        needed,
     };
     move_stop(
         lengths, stops, stop, vehicle, demand, n, distances, times, service, ready, due, penalty,
@@ -78,7 +78,7 @@ pub fn move_all(
     due: &[f64],
     penalty: &[f64],
     flags: &[u8],
-) -> Sum
+) -> Option<f64>
     requires { Waiting (problem n demand.now service.now ready.now due.now penalty.now flags.now distances.now times.now vehicle) soft needed lengths.old stops.old left.old count }
     ensures moved { held_by result (split lengths.new stops.new) ≡ move_all (problem n demand.now service.now ready.now due.now penalty.now flags.now
         distances.now times.now vehicle) saved
@@ -88,15 +88,12 @@ pub fn move_all(
     let mut added = 0.0;
     let mut m = count;
     while m > 0 {
-        let next = move_next(
+        let sum = move_next(
             lengths, stops, left, m, added, saved, soft, needed, vehicle, demand, n, distances,
             times, service, ready, due, penalty, flags,
-        );
-        let Sum::At(sum) = next else {
-            return Sum::Nothing;
-        };
+        )?;
         added = sum;
         m -= 1;
     }
-    Sum::At(added)
+    Some(added)
 }

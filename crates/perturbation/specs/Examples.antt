@@ -1,9 +1,7 @@
 -- Moves computed on a small plan: what a slip in them would change. Assumes nothing.
-use Rattle.std.specs.Prelude.{ℕ, ◌≡◌, refl, [], ◌∷◌, replicate, pos, Float}
+use Rattle.std.specs.Prelude.{ℕ, ◌≡◌, refl, [], ◌∷◌, replicate, pos, Float, None}
 use Rattle.std.specs.Float.{binary64}
 use Rattle.std.specs.Float.Ieee.{of_int}
-use Rattle.ejection_search.specs.models.declared.vehicle.Limit.TheVariants.{None as NoLimit}
-use Rattle.ejection_search.specs.models.declared.vehicle.Rest.TheVariants.{None as NoRest}
 use Rattle.ejection_search.specs.models.declared.vehicle.Vehicle.{Vehicle}
 use Rattle.ejection_search.specs.models.Problem.{Problem, problem}
 use Rattle.ejection_search.specs.plan.Plan.{Plan}
@@ -20,9 +18,9 @@ van =
       depot_id = 0;
       fixed_cost = num 0;
       cost_per_distance = num 1;
-      max_distance = NoLimit;
-      max_duration = NoLimit;
-      rest = NoRest;
+      max_distance = None;
+      max_duration = None;
+      rest = None;
     }
 
 -- the sheet's problem: two stops of demands 4 and 5

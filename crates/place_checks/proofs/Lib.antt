@@ -1,3 +1,1 @@
--- Laws of the checks of a place as the code makes them; the definitions are in models, Valid.
--- flags and demands
-pub mod PlaceLaws
+-- This crate has no laws of its own; the definitions are in models, Valid.

@@ -11,20 +11,14 @@ use problem_checks::amounts::is_amount;
 // Of the crates below, passed on to those above.
 pub use problem_checks::amounts::{amounts_pass, break_passes, vehicle_passes};
 pub use problem_checks::sizes::sizes_pass;
-pub use problem_checks::{Limit, Rest, RouteLimits, TimeWindow, Vehicle, VehicleBreak, Window};
+pub use problem_checks::{RouteLimits, TimeWindow, Vehicle, VehicleBreak};
 
 // Whether the window of place c, if it has one, is of two amounts.
 fn window_passes(c: usize, ready: &[f64], due: &[f64], flags: &[u8]) -> bool
     requires { (c < length ready.now) × (c < length due.now) × (c < length flags.now) }
     ensures { result ≡ window_passes (customers [] ready.now due.now [] flags.now) c }
 {
-    if flags[c] % 2 == 1 {
-        if is_amount(ready[c]) {
-            return is_amount(due[c]);
-        }
-        return false;
-    }
-    true
+    flags[c] % 2 != 1 || is_amount(ready[c]) && is_amount(due[c])
 }
 
 // Whether the penalty of place c, if it has one, is an amount.
@@ -32,20 +26,14 @@ fn penalty_passes(c: usize, penalty: &[f64], flags: &[u8]) -> bool
     requires { (c < length penalty.now) × (c < length flags.now) }
     ensures { result ≡ penalty_passes (customers [] [] [] penalty.now flags.now) c }
 {
-    if flags[c] / 2 % 2 == 1 {
-        return is_amount(penalty[c]);
-    }
-    true
+    flags[c] / 2 % 2 != 1 || is_amount(penalty[c])
 }
 
 // Whether a demand is one of -1,000,000..1,000,000, its ends included.
 fn demand_passes(d: i32) -> bool
     ensures { result ≡ demand_passes d }
 {
-    if -1000000 <= d {
-        return d <= 1000000;
-    }
-    false
+    -1000000 <= d && d <= 1000000
 }
 
 // Whether row 2 lets place c pass, its service aside.
@@ -60,16 +48,10 @@ fn place_passes(
     requires { (c < length demand.now) × (c < length ready.now) × (c < length due.now) × (c < length penalty.now) × (c < length flags.now) }
     ensures { result ≡ place_passes demand.now (customers [] ready.now due.now penalty.now flags.now) c }
 {
-    if flags[c] <= 3 {
-        if window_passes(c, ready, due, flags) {
-            if penalty_passes(c, penalty, flags) {
-                return demand_passes(demand[c]);
-            }
-            return false;
-        }
-        return false;
-    }
-    false
+    flags[c] <= 3
+        && window_passes(c, ready, due, flags)
+        && penalty_passes(c, penalty, flags)
+        && demand_passes(demand[c])
 }
 
 // Whether row 2 lets every place pass, its service aside.
@@ -83,12 +65,10 @@ pub fn places_pass(
     requires { (length ready.now ≡ length demand.now) × (length due.now ≡ length demand.now) × (length penalty.now ≡ length demand.now) × (length flags.now ≡ length demand.now) }
     ensures { result ≡ every (place_passes demand.now (customers [] ready.now due.now penalty.now flags.now)) (length demand.now) 0 }
 {
-    let mut c = 0;
-    while c < demand.len() {
+    for c in 0..demand.len() {
         if !place_passes(c, demand, ready, due, penalty, flags) {
             return false;
         }
-        c += 1;
     }
     true
 }
@@ -98,10 +78,7 @@ fn window_ordered(c: usize, ready: &[f64], due: &[f64], flags: &[u8]) -> bool
     requires { (c < length ready.now) × (c < length due.now) × (c < length flags.now) }
     ensures { result ≡ window_ordered (customers [] ready.now due.now [] flags.now) c }
 {
-    if flags[c] % 2 == 1 {
-        return !(ready[c] > due[c]);
-    }
-    true
+    flags[c] % 2 != 1 || !(ready[c] > due[c])
 }
 
 // Whether row 3 lets every place pass.
@@ -109,12 +86,10 @@ pub fn windows_pass(ready: &[f64], due: &[f64], flags: &[u8]) -> bool
     requires { (length ready.now ≡ length flags.now) × (length due.now ≡ length flags.now) }
     ensures { result ≡ every (window_ordered (customers [] ready.now due.now [] flags.now)) (length flags.now) 0 }
 {
-    let mut c = 0;
-    while c < flags.len() {
+    for c in 0..flags.len() {
         if !window_ordered(c, ready, due, flags) {
             return false;
         }
-        c += 1;
     }
     true
 }

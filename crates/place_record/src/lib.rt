@@ -4,40 +4,36 @@
 ghost use Rattle.std.specs.Prelude.{◌≡◌, ◌<◌, length};
 ghost use Rattle.models.specs.Customer.{customers, Sized, window_at, penalty_at, customer_at};
 
-use models::customer::TimeWindow;
-
 // Of the crates below, passed on to those above.
-pub use models::customer::{Customer, Penalty, Window};
+pub use models::customer::{Customer, TimeWindow};
 pub use models::limits::RouteLimits;
-pub use models::vehicle::{Rest, Vehicle, VehicleBreak};
+pub use models::vehicle::{Vehicle, VehicleBreak};
 pub use models::{abs, infinity, is_finite, max, min, total_less};
 
 // The window of place `c`: bit 0 of its flags says whether it has one. A value whose flag is clear is not read.
-pub fn window_at(c: usize, ready: &[f64], due: &[f64], flags: &[u8]) -> Window
+pub fn window_at(c: usize, ready: &[f64], due: &[f64], flags: &[u8]) -> Option<TimeWindow>
     requires { (c < length ready.now) × (c < length due.now) × (c < length flags.now) }
     ensures { result ≡ window_at ready.now due.now flags.now c }
 {
-    let f = flags[c];
-    if f % 2 == 1 {
-        Window::Is(TimeWindow {
+    if flags[c] % 2 == 1 {
+        Some(TimeWindow {
             ready: ready[c],
             due: due[c],
         })
     } else {
-        Window::None
+        None
     }
 }
 
 // The penalty of place `c`: bit 1 of its flags says whether it has one.
-pub fn penalty_at(c: usize, penalty: &[f64], flags: &[u8]) -> Penalty
+pub fn penalty_at(c: usize, penalty: &[f64], flags: &[u8]) -> Option<f64>
     requires { (c < length penalty.now) × (c < length flags.now) }
     ensures { result ≡ penalty_at penalty.now flags.now c }
 {
-    let f = flags[c];
-    if f / 2 % 2 == 1 {
-        Penalty::Of(penalty[c])
+    if flags[c] / 2 % 2 == 1 {
+        Some(penalty[c])
     } else {
-        Penalty::None
+        None
     }
 }
 
@@ -54,11 +50,9 @@ pub fn customer_at(
     requires c_in_bounds { c < length service.now }
     ensures { result ≡ customer_at (customers service.now ready.now due.now penalty.now flags.now) c }
 {
-    let time_window = window_at(c, ready, due, flags);
-    let lateness_penalty = penalty_at(c, penalty, flags);
     Customer {
         service_duration: service[c],
-        time_window,
-        lateness_penalty,
+        time_window: window_at(c, ready, due, flags),
+        lateness_penalty: penalty_at(c, penalty, flags),
     }
 }

@@ -13,10 +13,8 @@ pub fn offset(lengths: &[u16], k: usize) -> usize
     ensures { result ≡ offset lengths.now k }
 {
     let mut sum = 0;
-    let mut i = 0;
-    while i < k {
+    for i in 0..k {
         sum += lengths[i] as usize;
-        i += 1;
     }
     sum
 }

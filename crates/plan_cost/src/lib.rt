@@ -44,12 +44,10 @@ pub fn plan_cost(
     let fixed = vehicle.fixed_cost_in_distance();
     let mut sum = 0.0;
     let mut at = 0;
-    let mut k = 0;
-    while k < lengths.len() {
-        let end = at + lengths[k] as usize;
+    for length in lengths {
+        let end = at + *length as usize;
         sum = sum + (part_distance(stops, at, end, depot, n, distances) + fixed);
         at = end;
-        k += 1;
     }
     sum
 }

@@ -6,7 +6,7 @@ use mathlib.Core.Path.{◌≡◌, refl, sym, ap, subst, ◌∙◌}
 use mathlib.Core.Logic.{◌⊎◌, inl, inr}
 use mathlib.Core.Bool.{true, false≢true}
 use mathlib.Core.List.{List, [], ◌∷◌, Memᴰ}
-use mathlib.Core.Option.{Option, none, some}
+use Rattle.std.specs.Prelude.{Option, None, Some}
 use native.Mathlib.Nat.{le_refl, le_trans, mul-le-mul_left, add-mul, mul_comm, mul-div_cancel}
 use native.Mathlib.Omega.{arith}
 use lib.ListN.{length, replicate, length-map}
@@ -78,7 +78,7 @@ module _ (p : Problem) (first : Slices) where
     places : (c : ℕ) → occurs c (plan_in s) ≡ occurs c (plan_in first)
     no_more : length (routes_in s) ≤ n
     kinds : All Kind (plan_in s)
-    accepted : entry p s ≡ none
+    accepted : entry p s ≡ None
 
   reached_kept : (s : Slices) → Reached s → Kept p first s
   unfolding n
@@ -136,8 +136,8 @@ module _ (p : Problem) (first : Slices) where
       size = length s.lengths
 
       go : (o : Option ℕ) → After s (minimise given w) (reply s o x)
-      go (some k) = after_refused s (minimise given w) k h (λ l. absurd (omega (arith, l)))
-      go none =
+      go (Some k) = after_refused s (minimise given w) k h (λ l. absurd (omega (arith, l)))
+      go None =
           record {
             reached = reached_written s x.plan h m.places m.kinds m.no_more m.no_longer;
             steps_in = le_trans m.counts_in.steps_in (mul-le-mul_left given.limit (triangle_mono (length (routes_in s)) n h.no_more));
@@ -156,8 +156,8 @@ module _ (p : Problem) (first : Slices) where
       m = eliminate_keeps p Kind (λ r f _. inr (feasible_sound p r f)) (plan_in s) h.kinds
 
       go : (o : Option ℕ) → After s (eliminate w) (reply s o (record { plan = x; counts = record { steps = 0; draws = 0 } }))
-      go (some k) = after_refused s (eliminate w) k h tt
-      go none =
+      go (Some k) = after_refused s (eliminate w) k h tt
+      go None =
           record {
             reached = reached_written s x h m.places m.kinds m.no_more m.no_longer;
             steps_in = omega arith;
@@ -193,14 +193,14 @@ module _ (p : Problem) (first : Slices) where
         cheaper = along_cons a.cheaper f.cheaper;
       }
 
-  reached_first : entry p first ≡ none → Reached first
+  reached_first : entry p first ≡ None → Reached first
   unfolding n
   reached_first e = record { places = λ c. refl; no_more = le_refl (length (routes_in first)); kinds = all_mem Kind (plan_in first) (λ r m _. inl m); accepted = e }
 
   half : (k : ℕ) → triangle k ≡ k * (k + 1) / 2
   half k = sym (ap (λ (m : ℕ). m / 2) (sym (triangle_is k) ∙ mul_comm 2 (triangle k)) ∙ mul-div_cancel (triangle k) (omega arith))
 
-  demanded : (calls : List Call) → entry p first ≡ none → Demand p first calls (run p first calls)
+  demanded : (calls : List Call) → entry p first ≡ None → Demand p first calls (run p first calls)
   unfolding n
   demanded calls e =
       let f = from first calls (reached_first e) in
@@ -208,12 +208,12 @@ module _ (p : Problem) (first : Slices) where
 
   -- ---- refused whole
 
-  refused_call : (k : ℕ) → entry p first ≡ some k → (c : Call) → call p first c ≡ record { answer = refused k; slices = first }
+  refused_call : (k : ℕ) → entry p first ≡ Some k → (c : Call) → call p first c ≡ record { answer = refused k; slices = first }
   unfolding call public_minimise public_eliminate reply
-  refused_call k e (minimise given w) = rw (entry_first p first (some given.tape) (some given.limit) (some w) k e)
-  refused_call k e (eliminate w) = rw (entry_first p first none none (some w) k e)
+  refused_call k e (minimise given w) = rw (entry_first p first (Some given.tape) (Some given.limit) (Some w) k e)
+  refused_call k e (eliminate w) = rw (entry_first p first None None (Some w) k e)
 
-  refused_run : (k : ℕ) → entry p first ≡ some k → (calls : List Call) → All (λ r. r ≡ record { answer = refused k; slices = first }) (run p first calls)
+  refused_run : (k : ℕ) → entry p first ≡ Some k → (calls : List Call) → All (λ r. r ≡ record { answer = refused k; slices = first }) (run p first calls)
   unfolding run
   refused_run k e [] = all_nil
   refused_run k e (c ∷ calls) = rw (refused_call k e c) (all_cons refl (refused_run k e calls))

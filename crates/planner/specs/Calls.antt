@@ -1,12 +1,9 @@
 -- The public calls: each is refused by the table or answers. Assumes nothing.
-use Rattle.std.specs.Prelude.{ℕ, List, Bool, length, Float}
-use Rattle.std.proofs.Math.Option.{Option, none, some}
-use Rattle.lateness_bound.specs.models.declared.customer.Window.{Window}
+use Rattle.std.specs.Prelude.{ℕ, List, Bool, length, Float, Option, None, Some}
 use Rattle.lateness_bound.specs.models.declared.vehicle.VehicleBreak.{VehicleBreak}
 use Rattle.lateness_bound.specs.models.TimeWindow.{time_window_new}
 use Rattle.lateness_bound.specs.models.RouteLimits.{limits_of}
 use Rattle.lateness_bound.specs.models.Problem.{Problem, depot}
-use Rattle.lateness_bound.specs.break_clock.declared.route_eval.Eval.{Eval}
 use Rattle.lateness_bound.specs.break_clock.Schedule.{schedule}
 use Rattle.lateness_bound.specs.evaluation.Eval.{route_eval, effective_cost}
 use Rattle.lateness_bound.specs.evaluation.Check.{route_feasible}
@@ -14,6 +11,8 @@ use Rattle.lateness_bound.specs.Bound.{lateness_bound}
 use Rattle.minimization.specs.plan.Plan.{Plan, Slices, split, written}
 use Rattle.minimization.specs.route_cost.Route.{route_distance, gain_floor}
 use Rattle.minimization.specs.local_search.declared.rounds.Reduction.{Reduction}
+use Rattle.lateness_bound.specs.models.declared.customer.TimeWindow.{TimeWindow}
+use Rattle.lateness_bound.specs.break_clock.declared.route_eval.RouteEval.{RouteEval}
 use Rattle.minimization.specs.local_search.Rounds.{Result}
 use Rattle.minimization.specs.ejection_pool.Pool.{Allowance}
 use Rattle.minimization.specs.Minimize.{minimize_routes}
@@ -27,8 +26,8 @@ pub data Answer (A : Type 0) : Type 0 where
   answered : A → Answer A
 
 abbrev pub unless_refused : {A : Type 0} → Option ℕ → A → Answer A
-unless_refused none a = answered a
-unless_refused (some n) a = refused n
+unless_refused None a = answered a
+unless_refused (Some n) a = refused n
 
 -- ---- questions about a route or the problem. "rows 1 to 4 over the whole problem, then 6 over the route"
 
@@ -37,7 +36,7 @@ unfoldable pub public_route_feasible : Problem → List ℕ → Answer Bool
 public_route_feasible p r = unless_refused (refusal (route_inputs p r)) (route_feasible p.places p.roads (depot p) (limits_of p.vehicle) r)
 
 -- `route_eval`
-unfoldable pub public_route_eval : Problem → List ℕ → Answer Eval
+unfoldable pub public_route_eval : Problem → List ℕ → Answer (Option RouteEval)
 public_route_eval p r = unless_refused (refusal (route_inputs p r)) (route_eval p.places p.roads (depot p) (limits_of p.vehicle) r)
 
 -- `effective_cost`
@@ -45,7 +44,7 @@ unfoldable pub public_effective_cost : Problem → List ℕ → Answer Float
 public_effective_cost p r = unless_refused (refusal (route_inputs p r)) (effective_cost p.places p.roads (depot p) (limits_of p.vehicle) r)
 
 -- `schedule`, with the break that it is given, and no limits
-unfoldable pub public_schedule : Problem → VehicleBreak → List ℕ → Answer Eval
+unfoldable pub public_schedule : Problem → VehicleBreak → List ℕ → Answer (Option RouteEval)
 public_schedule p b r = unless_refused (refusal (schedule_inputs p b r)) (schedule p.places p.roads (depot p) b r)
 
 -- `route_distance`
@@ -61,7 +60,7 @@ unfoldable pub public_gain_floor : Problem → Answer Float
 public_gain_floor p = unless_refused (refusal (problem_inputs p)) (gain_floor p.roads)
 
 -- "`TimeWindow::new` is ported for every f64 and has no numbers."
-abbrev pub public_time_window_new : Float → Float → Window
+abbrev pub public_time_window_new : Float → Float → Option TimeWindow
 public_time_window_new ready due = time_window_new ready due
 
 -- ---- the two calls that change a plan
@@ -77,8 +76,8 @@ plan_in s = split s.lengths s.stops
 
 -- "A refusal returns its number only and changes no buffer."; otherwise "the first r lengths are the answer, later ones become 0"
 unfoldable pub reply : Slices → Option ℕ → Result → Reply
-reply s (some n) x = record { answer = refused n; slices = s }
-reply s none x = record { answer = answered (record { routes = length x.plan; counts = x.counts }); slices = written (length s.lengths) x.plan }
+reply s (Some n) x = record { answer = refused n; slices = s }
+reply s None x = record { answer = answered (record { routes = length x.plan; counts = x.counts }); slices = written (length s.lengths) x.plan }
 
 -- minimise
 unfoldable pub public_minimise : Problem → Slices → Allowance → Work → Reply

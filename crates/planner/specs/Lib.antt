@@ -1,7 +1,7 @@
 -- The public interface. A file uses only files above it in this list.
 -- the public calls
 pub mod Calls
--- the answers of the two calls in code
+-- the answers in code
 pub mod Told
 -- lists of calls, and the claim about them
 pub mod Run

@@ -1,11 +1,9 @@
 -- The refusal table row by row: the sheet's call with one fault at a time, with several, and at the edge of each row; by computation. Assumes nothing.
-use Rattle.std.specs.Prelude.{ℕ, ◌≡◌, refl, List, [], ◌∷◌, pos, Float}
-use Rattle.std.proofs.Math.Option.{Option, none, some}
+use Rattle.std.specs.Prelude.{ℕ, ◌≡◌, refl, List, [], ◌∷◌, pos, Float, None}
+use Rattle.std.specs.Prelude.{Option, None, Some}
 use Rattle.std.specs.Float.{nan, binary64}
 use Rattle.std.specs.Float.Ieee.{of_int, of_bits}
 use Rattle.lateness_bound.specs.floats.Binary64.{1e12}
-use Rattle.lateness_bound.specs.models.declared.vehicle.Limit.TheVariants.{None as NoLimit}
-use Rattle.lateness_bound.specs.models.declared.vehicle.Rest.TheVariants.{None as NoRest}
 use Rattle.lateness_bound.specs.models.declared.vehicle.Vehicle.{Vehicle}
 use Rattle.lateness_bound.specs.models.Problem.{Problem, problem}
 use Rattle.minimization.specs.plan.Plan.{Slices}
@@ -22,7 +20,7 @@ minus_zero = of_bits binary64 0x8000_0000_0000_0000
 
 abbrev van : ℕ → Vehicle
 van depot =
-    record { capacity = pos 10; depot_id = depot; fixed_cost = num 0; cost_per_distance = num 1; max_distance = NoLimit; max_duration = NoLimit; rest = NoRest }
+    record { capacity = pos 10; depot_id = depot; fixed_cost = num 0; cost_per_distance = num 1; max_distance = None; max_duration = None; rest = None }
 
 -- the sheet's problem with a depot, and with the service, ready and flags of place 1, whose due is 1 and whose penalty is a NaN; and times
 abbrev sheet : ℕ → Float → Float → ℕ → List Float → Problem
@@ -73,8 +71,8 @@ replies =
     ∷ []
 
 pub refusals : replies
-    ≡ none ∷ none
-    ∷ some 1 ∷ some 2 ∷ some 2 ∷ some 2 ∷ some 2 ∷ some 3 ∷ some 4 ∷ some 5 ∷ some 6 ∷ some 6 ∷ some 6 ∷ some 7 ∷ some 8 ∷ some 9 ∷ some 9
-    ∷ some 2 ∷ some 3 ∷ some 5 ∷ some 7 ∷ some 8 ∷ []
+    ≡ None ∷ None
+    ∷ Some 1 ∷ Some 2 ∷ Some 2 ∷ Some 2 ∷ Some 2 ∷ Some 3 ∷ Some 4 ∷ Some 5 ∷ Some 6 ∷ Some 6 ∷ Some 6 ∷ Some 7 ∷ Some 8 ∷ Some 9 ∷ Some 9
+    ∷ Some 2 ∷ Some 3 ∷ Some 5 ∷ Some 7 ∷ Some 8 ∷ []
 unfolding opened
 refusals = refl

@@ -1,7 +1,7 @@
 -- Lists of calls over one problem, and what is claimed of every one of them ("Lists of calls"; demand 3). Assumes nothing.
 use Rattle.std.specs.Prelude.{ℕ, ◌+◌, ◌*◌, ◌/◌, ◌≤◌, ◌<◌, ◌≡◌, true, ◌⊎◌, length}
 use mathlib.Core.List.{List, [], ◌∷◌, Memᴰ}
-use Rattle.std.proofs.Math.Option.{none, some}
+use Rattle.std.specs.Prelude.{None, Some}
 use Rattle.std.specs.Float.Ieee.{lt}
 use Rattle.lateness_bound.specs.laws.All.{All}
 use Rattle.lateness_bound.specs.models.Problem.{Problem}
@@ -86,7 +86,7 @@ pub record Kept (p : Problem) (first s : Slices) : Type 0 where
   -- each of them is a route of the first plan, or within capacity and passes the check
   pub origins : All (λ r. Memᴰ r (plan_in first) ⊎ Sound p r) (routes_in s)
   -- the table accepts the plan again
-  pub accepted : entry p s ≡ none
+  pub accepted : entry p s ≡ None
 
 -- where the problem and the first plan are accepted
 pub record Demand (p : Problem) (first : Slices) (calls : List Call) (replies : List Reply) : Type 0 where
@@ -101,5 +101,5 @@ pub record Claim (p : Problem) (first : Slices) (calls : List Call) (replies : L
   -- "The other side is demand 2's steps, run from the same first plan over the same problem and calls"
   pub by_the_steps : replies ≡ run p first calls
   -- "If the entry checks refuse the problem or the first plan, every call is refused and both slices stay"
-  pub refused_whole : (n : ℕ) → entry p first ≡ some n → All (λ r. r ≡ record { answer = refused n; slices = first }) replies
-  pub demand : entry p first ≡ none → Demand p first calls replies
+  pub refused_whole : (n : ℕ) → entry p first ≡ Some n → All (λ r. r ≡ record { answer = refused n; slices = first }) replies
+  pub demand : entry p first ≡ None → Demand p first calls replies

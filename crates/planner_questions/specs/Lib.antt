@@ -1,6 +1,4 @@
--- The questions in code; their definitions are in planner, Calls.
--- the answers in code
-pub mod Told
+-- What the contracts of this crate cite; the questions' definitions are in planner, Calls.
 -- crates below, passed on to those above
 pub use Rattle.refusals.specs.laws as laws
 pub use Rattle.refusals.specs.models as models

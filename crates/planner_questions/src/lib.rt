@@ -5,40 +5,17 @@
 ghost use Rattle.std.specs.Prelude.{◌≡◌};
 ghost use Rattle.refusals.specs.models.Problem.{problem};
 ghost use Rattle.planner.specs.Calls.{public_route_feasible, public_schedule, public_route_distance};
-ghost use Rattle.planner_questions.specs.Told.{checked_told, evaluated_told, number_told};
+ghost use Rattle.planner.specs.Told.{told};
 
 use refusals::calls::schedule_refusal;
 use refusals::evaluation_check as check;
 
 // Of the crates below, passed on to those above.
-pub use planner::calls::Replied;
-pub use planner::{bound, route_worth_effective_cost, route_worth_route_eval};
+pub use planner::{Reduction, Refusal, bound, route_worth_effective_cost, route_worth_route_eval};
 pub use refusals::calls::{problem_refusal, route_refusal};
 pub use refusals::{
-    Eval, Limit, Rest, RouteEval, RouteLimits, Taken, TimeWindow, Vehicle, VehicleBreak, Window,
-    route_cost_gain_floor,
+    RouteEval, RouteLimits, TimeWindow, Vehicle, VehicleBreak, route_cost_gain_floor,
 };
-
-// The answer yes or no, or the number of the refusal.
-#[derive(Clone, Copy)]
-pub enum Checked {
-    Refused(u8),
-    Answered(bool),
-}
-
-// The evaluation of a route, or the number of the refusal.
-#[derive(Clone, Copy)]
-pub enum Evaluated {
-    Refused(u8),
-    Answered(Eval),
-}
-
-// A number, or the number of the refusal.
-#[derive(Clone, Copy)]
-pub enum Number {
-    Refused(u8),
-    Answered(f64),
-}
 
 // Whether a route passes the check.
 pub fn route_feasible(
@@ -53,16 +30,13 @@ pub fn route_feasible(
     distances: &[f64],
     times: &[f64],
     vehicle: Vehicle,
-) -> Checked
-    ensures { checked_told result ≡ public_route_feasible (problem n demand.now service.now ready.now due.now penalty.now flags.now
+) -> Result<bool, Refusal>
+    ensures { told result ≡ public_route_feasible (problem n demand.now service.now ready.now due.now penalty.now flags.now
         distances.now times.now vehicle) route.now }
 {
-    let r = route_refusal(
+    route_refusal(
         route, n, demand, service, ready, due, penalty, flags, distances, times, vehicle,
-    );
-    if r != 0 {
-        return Checked::Refused(r);
-    }
+    )?; // a refused one is not checked
     let passes = check::route_feasible(
         route,
         vehicle.depot_id,
@@ -76,7 +50,7 @@ pub fn route_feasible(
         penalty,
         flags,
     );
-    Checked::Answered(passes)
+    Ok(passes)
 }
 
 // The distance of a route.
@@ -92,18 +66,15 @@ pub fn route_distance(
     distances: &[f64],
     times: &[f64],
     vehicle: Vehicle,
-) -> Number
-    ensures { number_told result ≡ public_route_distance (problem n demand.now service.now ready.now due.now penalty.now flags.now
+) -> Result<f64, Refusal>
+    ensures { told result ≡ public_route_distance (problem n demand.now service.now ready.now due.now penalty.now flags.now
         distances.now times.now vehicle) route.now }
 {
-    let r = route_refusal(
+    route_refusal(
         route, n, demand, service, ready, due, penalty, flags, distances, times, vehicle,
-    );
-    if r != 0 {
-        return Number::Refused(r);
-    }
+    )?; // a refused one is not measured
     let distance = refusals::route_cost_route_distance(route, vehicle.depot_id, n, distances);
-    Number::Answered(distance)
+    Ok(distance)
 }
 
 // The schedule of a route with the break that is given, without limits.
@@ -120,16 +91,13 @@ pub fn schedule(
     distances: &[f64],
     times: &[f64],
     vehicle: Vehicle,
-) -> Evaluated
-    ensures { evaluated_told result ≡ public_schedule (problem n demand.now service.now ready.now due.now penalty.now flags.now
+) -> Result<Option<RouteEval>, Refusal>
+    ensures { told result ≡ public_schedule (problem n demand.now service.now ready.now due.now penalty.now flags.now
         distances.now times.now vehicle) rest route.now }
 {
-    let r = schedule_refusal(
+    schedule_refusal(
         route, rest, n, demand, service, ready, due, penalty, flags, distances, times, vehicle,
-    );
-    if r != 0 {
-        return Evaluated::Refused(r); // not scheduled
-    }
+    )?; // a refused one is not scheduled
     let timed = refusals::break_schedule_schedule(
         route,
         vehicle.depot_id,
@@ -143,5 +111,5 @@ pub fn schedule(
         penalty,
         flags,
     );
-    Evaluated::Answered(timed)
+    Ok(timed)
 }

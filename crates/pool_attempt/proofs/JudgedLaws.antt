@@ -3,7 +3,7 @@ use Prim.Native.Nat.{ℕ, zero, suc, ◌≤◌}
 use mathlib.Core.Path.{◌≡◌, refl, sym, ap, ◌∙◌}
 use mathlib.Core.Bool.{Bool, true, false}
 use mathlib.Core.List.{List, [], ◌∷◌}
-use mathlib.Core.Option.{Option, some}
+use Rattle.std.proofs.Common.{Option, Some, Result, Ok, Err}
 use native.Mathlib.Omega.{arith}
 use lib.ListN.{length}
 use lib.Ieee.{Float, lt}
@@ -16,9 +16,6 @@ use Rattle.pool_cost.specs.local_search.Options.{Each, each_found, bind, then_so
 use Rattle.pool_cost.specs.local_search.Planned.{Planned, planned_stops}
 use Rattle.pool_cost.specs.route_cost.Route.{cost}
 use Rattle.pool_cost.specs.local_search.Rounds.{Tried}
-use Rattle.pool_emptying.specs.pool_turns.declared.Emptied.{Emptied}
-use Rattle.pool_emptying.specs.pool_turns.declared.Emptied.TheVariants.{Failed, Done}
-use Rattle.pool_attempt.specs.declared.Attempted.TheVariants.{Kept, Accepted}
 use Rattle.pool_cost.specs.ejection_pool.Pool.{Allowance, State, Turn, stop, more, turn, at_limit, run_pool}
 use Rattle.pool_cost.specs.EjectionPoolTurns.{Then, turn_rule, pool_rule}
 use Rattle.pool_cost.specs.ejection_pool.Pooled.{Pooled}
@@ -55,32 +52,32 @@ module _ (given : Allowance) (p : Problem) (n : ℕ) (few : n ≤ 256) where
 -- the plan that is left where the pool is emptied is one of stops
 module _ (given : Allowance) {p : Problem} {tape : List ℕ} {needed : Bool} {limit : ℕ} {ls s pool work failures : List ℕ} {cells : List Float} {start : ℕ} {counted : Counts}
     (g : Running p tape needed limit ls s pool work failures cells start counted) where
-  pub done_stops : (plan : Plan) (counts : Counts) (x : Emptied) → said x plan ≡ run_pool given p limit (state ls s pool start failures counted) → x ≡ Done counts
+  pub done_stops : (plan : Plan) (counts : Counts) (x : Result Counts Counts) → said x plan ≡ run_pool given p limit (state ls s pool start failures counted) → x ≡ Ok counts
       → All (Stops p.roads.size) plan
   done_stops plan counts x e f =
       let t = run_pool given p limit (state ls s pool start failures counted) in
-      let d : t.plan ≡ some plan = ap (λ (y : Tried). y.plan) (sym e ∙ ap (λ (y : Emptied). said y plan) f) in
+      let d : t.plan ≡ Some plan = ap (λ (y : Tried). y.plan) (sym e ∙ ap (λ (y : Result Counts Counts). said y plan) f) in
       let few : length s ≤ 256 = omega (arith, g.few) in
       planned_stops p.roads.size plan (each_found (Planned p.roads.size) t.plan d (pool_planned given p (length s) few limit (state ls s pool start failures counted) g.pooled))
 
 -- the test of the cost
-module _ (p : Problem) (before : Float) (t : Tried) (plan : Plan) (counts : Counts) (x : Emptied) (e : said x plan ≡ t) where
-  pub judged_failed : x ≡ Failed counts → tried (Kept counts) plan ≡ judged p before t
+module _ (p : Problem) (before : Float) (t : Tried) (plan : Plan) (counts : Counts) (x : Result Counts Counts) (e : said x plan ≡ t) where
+  pub judged_failed : x ≡ Err counts → tried (Err counts) plan ≡ judged p before t
   unfolding bind
-  judged_failed f = ap (λ (y : Emptied). judged p before (said y plan)) (sym f) ∙ ap (judged p before) e
+  judged_failed f = ap (λ (y : Result Counts Counts). judged p before (said y plan)) (sym f) ∙ ap (judged p before) e
 
-  module _ (f : x ≡ Done counts) (v : Bool) (c : v ≡ lt (cost (of_distances p.roads.size p.roads.distances p.vehicle) plan) (before ⊖ 1e-12 ⊗ abs before)) where
-    emptied : judged p before (said (Done counts) plan) ≡ judged p before t
-    emptied = ap (λ (y : Emptied). judged p before (said y plan)) (sym f) ∙ ap (judged p before) e
+  module _ (f : x ≡ Ok counts) (v : Bool) (c : v ≡ lt (cost (of_distances p.roads.size p.roads.distances p.vehicle) plan) (before ⊖ 1e-12 ⊗ abs before)) where
+    emptied : judged p before (said (Ok counts) plan) ≡ judged p before t
+    emptied = ap (λ (y : Result Counts Counts). judged p before (said y plan)) (sym f) ∙ ap (judged p before) e
 
     answer : record { plan = then_some v plan; counts = counts } ≡ judged p before t
     unfolding bind
     answer = ap (λ (o : Option Plan). record { plan = o; counts = counts }) (cheaper_tested p before plan v c) ∙ emptied
 
-    pub judged_cheaper : v ≡ true → tried (Accepted counts) plan ≡ judged p before t
+    pub judged_cheaper : v ≡ true → tried (Ok counts) plan ≡ judged p before t
     unfolding then_some
     judged_cheaper g = ap (λ (b : Bool). record { plan = then_some b plan; counts = counts }) (sym g) ∙ answer
 
-    pub judged_dearer : v ≡ false → tried (Kept counts) plan ≡ judged p before t
+    pub judged_dearer : v ≡ false → tried (Err counts) plan ≡ judged p before t
     unfolding then_some
     judged_dearer g = ap (λ (b : Bool). record { plan = then_some b plan; counts = counts }) (sym g) ∙ answer

@@ -10,19 +10,13 @@ ghost use Rattle.pool_cost.specs.ejection_pool.Running.{Running, state, allowanc
 ghost use Rattle.pool_attempt.specs.Judged.{tried, judged};
 
 use pool_cost::is_cheaper;
-use pool_emptying::{Emptied, empty_pool};
+use pool_emptying::empty_pool;
 
 // Of the crates below, passed on to those above.
 pub use pool_cost::{Counts, Vehicle};
 
-// How an attempt ends: the plan is kept as it was, or the one without the route is accepted; with the counts of the call so far.
-#[derive(Clone, Copy)]
-pub enum Attempted {
-    Kept(Counts),
-    Accepted(Counts),
-}
-
-// The pool is emptied into the routes, and the plan that is left is compared with `before`.
+// The pool is emptied into the routes, and the plan that is left is compared with `before`. An error is a plan that is kept as it was.
+// Either comes with the counts of the call so far.
 pub fn try_rest(
     lengths: &mut [u16],
     stops: &mut [u16],
@@ -46,7 +40,7 @@ pub fn try_rest(
     due: &[f64],
     penalty: &[f64],
     flags: &[u8],
-) -> Attempted
+) -> Result<Counts, Counts>
     requires { Running (problem n demand.now service.now ready.now due.now penalty.now flags.now distances.now times.now vehicle) tape.now needed limit
         lengths.old stops.old pool.old work.old (replicate n 1) cells.old start counted }
     ensures plan { tried result (split lengths.new stops.new) ≡ judged (problem n demand.now service.now ready.now due.now penalty.now flags.now
@@ -56,17 +50,13 @@ pub fn try_rest(
         (state lengths.old stops.old pool.old start (replicate n 1) counted)) }
     ensures held { Lent lengths.new stops.new }
 {
-    let emptied = empty_pool(
+    let counts = empty_pool(
         lengths, stops, pool, work, cells, tape, start, limit, clock, counted, needed, vehicle,
         demand, n, distances, times, service, ready, due, penalty, flags,
-    );
-    match emptied {
-        Emptied::Failed(counts) => Attempted::Kept(counts),
-        Emptied::Done(counts) => {
-            if is_cheaper(lengths, stops, before, vehicle, n, distances) {
-                return Attempted::Accepted(counts);
-            }
-            Attempted::Kept(counts)
-        }
+    )?;
+    if is_cheaper(lengths, stops, before, vehicle, n, distances) {
+        Ok(counts)
+    } else {
+        Err(counts)
     }
 }

@@ -1,6 +1,6 @@
 -- The attempt at a route (route_minimization.rs, the body of the round in `minimize_routes`). Assumes nothing.
 use Rattle.std.specs.Prelude.{ℕ, Float}
-use Rattle.std.proofs.Math.Option.{Option}
+use Rattle.std.specs.Prelude.{Option}
 use Rattle.std.specs.Float.Ieee.{lt}
 use Rattle.plan_cost.specs.floats.Binary64.{◌⊖◌, ◌⊗◌, 1e-12, abs}
 use Rattle.plan_cost.specs.laws.Edits.{erase}

@@ -10,10 +10,7 @@ ghost use Rattle.pool_turns.specs.Ends.{said};
 
 use pool_turns::{Counts, Vehicle, empty_into};
 
-// Of the crates below, passed on to those above.
-pub use pool_turns::Emptied;
-
-// The pool is emptied into the routes, with a failure counted for every place at the start.
+// The pool is emptied into the routes, with a failure counted for every place at the start. An error is a pool that is not emptied.
 pub fn empty_pool(
     lengths: &mut [u16],
     stops: &mut [u16],
@@ -36,7 +33,7 @@ pub fn empty_pool(
     due: &[f64],
     penalty: &[f64],
     flags: &[u8],
-) -> Emptied
+) -> Result<Counts, Counts>
     requires { Running (problem n demand.now service.now ready.now due.now penalty.now flags.now distances.now times.now vehicle) tape.now needed limit
         lengths.old stops.old pool.old work.old (replicate n 1) cells.old start counted }
     ensures plan { said result (split lengths.new stops.new) ≡ run_pool (allowance limit clock tape.now) (problem n demand.now service.now ready.now due.now penalty.now flags.now

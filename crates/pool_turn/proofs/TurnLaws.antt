@@ -4,7 +4,7 @@ use native.Mathlib.Omega.{arith}
 use mathlib.Core.Path.{◌≡◌, refl, sym, ap, subst, ◌∙◌}
 use mathlib.Core.Bool.{Bool, true, false, true≢false, false≢true}
 use mathlib.Core.List.{List, [], ◌∷◌}
-use mathlib.Core.Option.{Option, none, some}
+use Rattle.std.proofs.Common.{Option, None, Some, Ok}
 use borrow.Author.Tests.{eq-eqb, leb-true, leb-false}
 use lib.ListN.{length, get_or, set, length-set}
 use lib.Dec.{eqb, leb}
@@ -21,7 +21,6 @@ use Rattle.forced_insertion.specs.insertion.Cheapest.{cheapest}
 use Rattle.forced_insertion.specs.ejection.Asked.{Counted}
 use Rattle.forced_insertion.specs.ejection.Eject.{eject}
 use Rattle.forced_insertion.specs.ejection_made.Made.{stack, stack_pop}
-use Rattle.forced_insertion.specs.declared.Turn.TheVariants.{Stuck, More}
 use Rattle.forced_insertion.specs.ejection_pool.Pool.{State, Turn, after_cheapest, after_eject}
 use Rattle.forced_insertion.specs.ejection_pool.Pooled.{Pooled}
 use Rattle.forced_insertion.specs.EjectionPoolPooledLaws.{pooled_planned, raised}
@@ -96,18 +95,18 @@ module _ (p : Problem) (tape : List ℕ) (needed : Bool) (left : ℕ) (ls s pool
         }
       where
         unput : (o : Option Insertion) → false ≡ is_there o → put_best (get_or pool (n - 1) 0) o (split ls s) ≡ split ls s
-        unput none f = refl
-        unput (some x) f = absurd (false≢true f)
+        unput None f = refl
+        unput (Some x) f = absurd (false≢true f)
 
 -- ---- what the turn says
 
 -- there is a place
 pub turn_placed : (tape : List ℕ) (p : Problem) (s : State) (c : ℕ) (o : Option Insertion) (pool : List ℕ) (m n : ℕ) (ls stops : List ℕ) (v : Bool) → v ≡ is_there o → v ≡ true
     → Holds (put_best c o s.routes) n ls stops
-    → as_turn (More m (record { steps = s.counts.steps + 1; draws = s.counts.draws })) (split ls stops) pool s.failures ≡ after_cheapest tape p s c (stack pool m) o
+    → as_turn (Ok (m, record { steps = s.counts.steps + 1; draws = s.counts.draws })) (split ls stops) pool s.failures ≡ after_cheapest tape p s c (stack pool m) o
 unfolding after_cheapest
-turn_placed tape p s c none pool m n ls stops v e t x = absurd (false≢true (sym e ∙ t))
-turn_placed tape p s c (some i) pool m n ls stops v e t x = rw x.routes
+turn_placed tape p s c None pool m n ls stops v e t x = absurd (false≢true (sym e ∙ t))
+turn_placed tape p s c (Some i) pool m n ls stops v e t x = rw x.routes
 
 -- there is none
 pub turn_forced : (tape : List ℕ) (p : Problem) (s : State) (c : ℕ) (o : Option Insertion) (rest : List ℕ) (n : ℕ) (ls stops : List ℕ) (v : Bool) (t : Turn) → v ≡ is_there o → v ≡ false
@@ -115,8 +114,8 @@ pub turn_forced : (tape : List ℕ) (p : Problem) (s : State) (c : ℕ) (o : Opt
     → t ≡ after_eject tape p (split ls stops) s.counts c rest (set s.failures c (get_or s.failures c 0 + 1)) (eject p (split ls stops) c (set s.failures c (get_or s.failures c 0 + 1)))
     → t ≡ after_cheapest tape p s c rest o
 unfolding after_cheapest
-turn_forced tape p s c none rest n ls stops v t e f x q = subst (λ (r : Plan). t ≡ after_eject tape p r s.counts c rest (set s.failures c (get_or s.failures c 0 + 1)) (eject p r c (set s.failures c (get_or s.failures c 0 + 1)))) x.routes q
-turn_forced tape p s c (some i) rest n ls stops v t e f x q = absurd (true≢false (sym e ∙ f))
+turn_forced tape p s c None rest n ls stops v t e f x q = subst (λ (r : Plan). t ≡ after_eject tape p r s.counts c rest (set s.failures c (get_or s.failures c 0 + 1)) (eject p r c (set s.failures c (get_or s.failures c 0 + 1)))) x.routes q
+turn_forced tape p s c (Some i) rest n ls stops v t e f x q = absurd (true≢false (sym e ∙ f))
 
 pub one_at_most : (v : Bool) → one_more v ≤ 1
 one_at_most true = omega arith

@@ -14,9 +14,10 @@ ghost use Rattle.forced_insertion.specs.Turned.{as_turn};
 use forced_insertion::{force, place};
 
 // Of the crates below, passed on to those above.
-pub use forced_insertion::{Counts, Turn, Vehicle};
+pub use forced_insertion::{Counts, Vehicle};
 
-// One turn: the stop on top of the pool is popped and goes to its cheapest place, or, with one failure more, in for others.
+// One turn: the stop on top of the pool is popped and goes to its cheapest place, or, with one failure more, in for others. Returns the number in the pool,
+// or an error where no ejection works; either with the counts of the call so far.
 pub fn one_turn(
     lengths: &mut [u16],
     stops: &mut [u16],
@@ -38,7 +39,7 @@ pub fn one_turn(
     due: &[f64],
     penalty: &[f64],
     flags: &[u8],
-) -> Turn
+) -> Result<(usize, Counts), Counts>
     requires running { Running (problem n demand.now service.now ready.now due.now penalty.now flags.now distances.now times.now vehicle) tape.now needed 1
         lengths.old stops.old pool.old work.old failures.old cells.old count counts }
     requires count_nonzero { (0 < count) × (counts.steps + 1 < 2 ^ 64) }
@@ -57,13 +58,11 @@ pub fn one_turn(
         lengths, stops, cells, c, needed, vehicle, demand, n, distances, times, service, ready,
         due, penalty, flags,
     ) {
-        return Turn::More(
-            m,
-            Counts {
-                steps: counts.steps + 1,
-                draws: counts.draws,
-            },
-        );
+        let after = Counts {
+            steps: counts.steps + 1,
+            draws: counts.draws,
+        };
+        return Ok((m, after));
     }
     let x = c as usize;
     failures[x] += 1;

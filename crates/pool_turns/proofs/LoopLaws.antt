@@ -5,6 +5,7 @@ use native.Mathlib.Omega.{arith}
 use mathlib.Core.Path.{◌≡◌, refl, sym, ap, subst, ◌∙◌}
 use mathlib.Core.Bool.{Bool, true, false}
 use mathlib.Core.List.{List, [], ◌∷◌}
+use Rattle.std.proofs.Common.{Result, Ok, Err}
 use lib.ListN.{length, get_or}
 use lib.Ieee.{Float}
 use Rattle.pool_turn.specs.models.Problem.{Problem}
@@ -13,9 +14,6 @@ use Rattle.pool_turn.specs.local_search.declared.rounds.Counts.{Counts}
 use Rattle.pool_turn.specs.local_search.Rounds.{Tried}
 use Rattle.pool_turn.specs.insertion.Cheapest.{cheapest}
 use Rattle.pool_turn.specs.ejection_made.Made.{stack, stack_pop}
-use Rattle.pool_turn.specs.forced_insertion.declared.Turn.{Turn as Ended}
-use Rattle.pool_turn.specs.forced_insertion.declared.Turn.TheVariants.{Stuck, More}
-use Rattle.pool_turns.specs.declared.Emptied.TheVariants.{Failed, Done}
 use Rattle.pool_turn.specs.ejection_pool.Pool.{Allowance, State, Turn, stop, more, failed, turn, after_cheapest, run_pool}
 use Rattle.pool_turn.specs.EjectionPoolTurns.{pool_more, pool_stop, emptied, at_the_limit, clocked, goes_on}
 use Rattle.pool_turn.specs.ejection_pool.Pooled.{Pooled}
@@ -55,7 +53,7 @@ looping_start given p needed ls s pool work failures cells n counts g =
 module _ (given : Allowance) (p : Problem) (needed : Bool) (first : State) (ls₀ s₀ pool₀ work₀ failures₀ : List ℕ) (cells₀ : List Float) (left : ℕ)
     (ls s pool work failures : List ℕ) (cells : List Float) (n : ℕ) (counts : Counts)
     (g : Looping given p needed first ls₀ s₀ pool₀ work₀ failures₀ cells₀ left ls s pool work failures cells n counts) where
-  pub looping_done : n ≤ 0 → said (Done counts) (split ls s) ≡ run_pool given p given.limit first
+  pub looping_done : n ≤ 0 → said (Ok counts) (split ls s) ≡ run_pool given p given.limit first
   looping_done h = sym (g.same ∙ emptied given p (state ls s pool n failures counts) left (none n h))
     where
       none : (m : ℕ) → m ≤ 0 → stack pool m ≡ []
@@ -66,7 +64,7 @@ module _ (given : Allowance) (p : Problem) (needed : Bool) (first : State) (ls�
     top : stack pool n ≡ get_or pool (n - 1) 0 ∷ stack pool (n - 1)
     top = stack_pop pool n h
 
-    pub looping_spent : left ≡ 0 → said (Failed counts) (split ls s) ≡ run_pool given p given.limit first
+    pub looping_spent : left ≡ 0 → said (Err counts) (split ls s) ≡ run_pool given p given.limit first
     looping_spent z =
         sym (g.same ∙ ap (λ (m : ℕ). run_pool given p m (state ls s pool n failures counts)) z
         ∙ at_the_limit given p (state ls s pool n failures counts) (get_or pool (n - 1) 0) (stack pool (n - 1)) top)
@@ -78,7 +76,7 @@ module _ (given : Allowance) (p : Problem) (needed : Bool) (first : State) (ls�
       before : run_pool given p given.limit first ≡ run_pool given p (suc (left - 1)) (state ls s pool n failures counts)
       before = g.same ∙ ap (λ (m : ℕ). run_pool given p m (state ls s pool n failures counts)) (sym pred)
 
-      pub looping_clocked : given.clock ≤ counts.steps → said (Failed counts) (split ls s) ≡ run_pool given p given.limit first
+      pub looping_clocked : given.clock ≤ counts.steps → said (Err counts) (split ls s) ≡ run_pool given p given.limit first
       looping_clocked t =
           sym (before ∙ pool_stop given p (left - 1) (state ls s pool n failures counts) (failed counts)
           (clocked given p (state ls s pool n failures counts) (get_or pool (n - 1) 0) (stack pool (n - 1)) top t))
@@ -99,23 +97,23 @@ module _ (given : Allowance) (p : Problem) (needed : Bool) (first : State) (ls�
           }
 
       -- a turn that was made: x is how it ended
-      module _ (t : counts.steps < given.clock) (x : Ended) (ls' s' pool' work' failures' : List ℕ) (cells' : List Float)
+      module _ (t : counts.steps < given.clock) (x : Result (ℕ × Counts) Counts) (ls' s' pool' work' failures' : List ℕ) (cells' : List Float)
           (e : as_turn x (split ls' s') pool' failures' ≡ after_cheapest given.tape p (state ls s pool n failures counts) (get_or pool (n - 1) 0) (stack pool (n - 1))
           (cheapest p (split ls s) (get_or pool (n - 1) 0))) where
         made : turn given p (state ls s pool n failures counts) (stack pool n) ≡ as_turn x (split ls' s') pool' failures'
         made = goes_on given p (state ls s pool n failures counts) (get_or pool (n - 1) 0) (stack pool (n - 1)) top t ∙ sym e
 
-        pub looping_stuck : (after : Counts) → x ≡ Stuck after → said (Failed after) (split ls' s') ≡ run_pool given p given.limit first
+        pub looping_stuck : (after : Counts) → x ≡ Err after → said (Err after) (split ls' s') ≡ run_pool given p given.limit first
         looping_stuck after ex =
             sym (before ∙ pool_stop given p (left - 1) (state ls s pool n failures counts) (failed after)
-            (made ∙ ap (λ (y : Ended). as_turn y (split ls' s') pool' failures') ex))
+            (made ∙ ap (λ (y : Result (ℕ × Counts) Counts). as_turn y (split ls' s') pool' failures') ex))
 
-        pub looping_more : (m : ℕ) (after : Counts) → x ≡ More m after → Lent ls' s' → length ls' ≡ length ls → length s' ≡ length s → length pool' ≡ length pool
+        pub looping_more : (m : ℕ) (after : Counts) → x ≡ Ok (m, after) → Lent ls' s' → length ls' ≡ length ls → length s' ≡ length s → length pool' ≡ length pool
             → length work' ≡ length work → length failures' ≡ length failures → length cells' ≡ length cells
             → Looping given p needed first ls₀ s₀ pool₀ work₀ failures₀ cells₀ (left - 1) ls' s' pool' work' failures' cells' m after
         looping_more m after ex l el es ep ew ef ec =
             let went : turn given p (state ls s pool n failures counts) (stack pool n) ≡ more (state ls' s' pool' m failures' after) =
-            made ∙ ap (λ (y : Ended). as_turn y (split ls' s') pool' failures') ex in
+            made ∙ ap (λ (y : Result (ℕ × Counts) Counts). as_turn y (split ls' s') pool' failures') ex in
             let kept : Pooled p (length s) (suc (left - 1)) (state ls s pool n failures counts) =
             subst (λ (i : ℕ). Pooled p (length s) i (state ls s pool n failures counts)) (sym pred) g.running.pooled in
             record {

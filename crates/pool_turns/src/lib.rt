@@ -9,19 +9,13 @@ ghost use Rattle.pool_turn.specs.ejection_pool.Pool.{run_pool};
 ghost use Rattle.pool_turn.specs.ejection_pool.Running.{Running, state, allowance};
 ghost use Rattle.pool_turns.specs.Ends.{said};
 
-use pool_turn::{Turn, one_turn};
+use pool_turn::one_turn;
 
 // Of the crates below, passed on to those above.
 pub use pool_turn::{Counts, Vehicle};
 
-// How an attempt ends: the pool is not emptied, or it is. With the counts of the call so far.
-#[derive(Clone, Copy)]
-pub enum Emptied {
-    Failed(Counts),
-    Done(Counts),
-}
-
-// The pool of `start` stops is emptied into the routes, within `limit` steps and while the call's steps are below `clock`.
+// The pool of `start` stops is emptied into the routes, within `limit` steps and while the call's steps are below `clock`. An error is a pool that is not
+// emptied. Either comes with the counts of the call so far.
 pub fn empty_into(
     lengths: &mut [u16],
     stops: &mut [u16],
@@ -45,7 +39,7 @@ pub fn empty_into(
     due: &[f64],
     penalty: &[f64],
     flags: &[u8],
-) -> Emptied
+) -> Result<Counts, Counts>
     requires { Running (problem n demand.now service.now ready.now due.now penalty.now flags.now distances.now times.now vehicle) tape.now needed limit
         lengths.old stops.old pool.old work.old failures.old cells.old start counted }
     ensures plan { said result (split lengths.new stops.new) ≡ run_pool (allowance limit clock tape.now) (problem n demand.now service.now ready.now due.now penalty.now flags.now
@@ -57,26 +51,14 @@ pub fn empty_into(
     let mut left = limit;
     let mut counts = counted;
     while 0 < count {
-        if left == 0 {
-            return Emptied::Failed(counts);
-        }
-        if clock <= counts.steps {
-            return Emptied::Failed(counts);
+        if left == 0 || clock <= counts.steps {
+            return Err(counts);
         }
         left -= 1;
-        let turn = one_turn(
+        (count, counts) = one_turn(
             lengths, stops, pool, work, failures, cells, tape, count, counts, needed, vehicle,
             demand, n, distances, times, service, ready, due, penalty, flags,
-        );
-        match turn {
-            Turn::Stuck(after) => {
-                return Emptied::Failed(after);
-            }
-            Turn::More(m, after) => {
-                count = m;
-                counts = after;
-            }
-        }
+        )?;
     }
-    Emptied::Done(counts)
+    Ok(counts)
 }

@@ -1,5 +1,3 @@
 -- Laws of the checks of a problem as the code makes them; the definitions are in models, Valid.
--- row 1
-pub mod SizeLaws
 -- row 2
 pub mod AmountLaws

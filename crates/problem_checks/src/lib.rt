@@ -5,6 +5,6 @@ pub mod amounts;
 pub mod sizes;
 
 // Of the crates below, passed on to those above.
-pub use models::customer::{TimeWindow, Window};
+pub use models::customer::TimeWindow;
 pub use models::limits::RouteLimits;
-pub use models::vehicle::{Limit, Rest, Vehicle, VehicleBreak};
+pub use models::vehicle::{Vehicle, VehicleBreak};

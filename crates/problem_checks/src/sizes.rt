@@ -10,10 +10,7 @@ use models::vehicle::Vehicle;
 fn count_passes(n: usize) -> bool
     ensures { result ≡ count_passes n }
 {
-    if n == 0 {
-        return false;
-    }
-    n <= 256
+    n != 0 && n <= 256
 }
 
 // Whether each slice of the places has n cells.
@@ -27,19 +24,11 @@ fn cells_pass(
 ) -> bool
     ensures { result ≡ cells_pass (customers service.now ready.now due.now penalty.now flags.now) n }
 {
-    if service.len() == n {
-        if ready.len() == n {
-            if due.len() == n {
-                if penalty.len() == n {
-                    return flags.len() == n;
-                }
-                return false;
-            }
-            return false;
-        }
-        return false;
-    }
-    false
+    service.len() == n
+        && ready.len() == n
+        && due.len() == n
+        && penalty.len() == n
+        && flags.len() == n
 }
 
 // Whether there are n × n distances, and as many times or none.
@@ -48,16 +37,11 @@ fn matrix_passes(n: usize, distances: &[f64], times: &[f64]) -> bool
     ensures { result ≡ matrix_passes (matrix n distances.now times.now) }
 {
     let cells = n * n;
-    if distances.len() == cells {
-        if times.len() == 0 {
-            return true;
-        }
-        return times.len() == cells;
-    }
-    false
+    distances.len() == cells && (times.len() == 0 || times.len() == cells)
 }
 
 // Whether row 1 lets the problem pass.
+#[tactic(auto, unfolding(models::specs::Valid::sizes_pass))]
 pub fn sizes_pass(
     n: usize,
     demand: &[i32],
@@ -73,14 +57,8 @@ pub fn sizes_pass(
     ensures { result ≡ sizes_pass (problem n demand.now service.now ready.now due.now penalty.now flags.now
         distances.now times.now vehicle) }
 {
-    if count_passes(n) {
-        if demand.len() == n {
-            if cells_pass(n, service, ready, due, penalty, flags) {
-                return matrix_passes(n, distances, times);
-            }
-            return false;
-        }
-        return false;
-    }
-    false
+    count_passes(n)
+        && demand.len() == n
+        && cells_pass(n, service, ready, due, penalty, flags)
+        && matrix_passes(n, distances, times)
 }

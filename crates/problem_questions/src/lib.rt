@@ -4,12 +4,12 @@
 ghost use Rattle.std.specs.Prelude.{◌≡◌};
 ghost use Rattle.planner_questions.specs.models.Problem.{problem};
 ghost use Rattle.planner_questions.specs.planner.Calls.{public_lateness_bound, public_gain_floor, public_time_window_new};
-ghost use Rattle.planner_questions.specs.Told.{number_told};
+ghost use Rattle.planner_questions.specs.planner.Told.{told};
 
-use planner_questions::{Number, TimeWindow, Window, bound, problem_refusal};
+use planner_questions::{Refusal, TimeWindow, bound, problem_refusal};
 
 // Of the crates below, passed on to those above.
-pub use planner_questions::{Limit, Rest, Vehicle};
+pub use planner_questions::{Vehicle, VehicleBreak};
 
 // The bound on the lateness cost of a route.
 pub fn lateness_bound(
@@ -23,18 +23,15 @@ pub fn lateness_bound(
     distances: &[f64],
     times: &[f64],
     vehicle: Vehicle,
-) -> Number
-    ensures { number_told result ≡ public_lateness_bound (problem n demand.now service.now ready.now due.now penalty.now flags.now
+) -> Result<f64, Refusal>
+    ensures { told result ≡ public_lateness_bound (problem n demand.now service.now ready.now due.now penalty.now flags.now
         distances.now times.now vehicle) }
 {
-    let r = problem_refusal(
+    problem_refusal(
         n, demand, service, ready, due, penalty, flags, distances, times, vehicle,
-    );
-    if r != 0 {
-        return Number::Refused(r);
-    }
+    )?;
     let most = bound::lateness_bound(n, distances, times, service, ready, due, penalty, flags);
-    Number::Answered(most)
+    Ok(most)
 }
 
 // The least gain that counts as one.
@@ -49,22 +46,19 @@ pub fn gain_floor(
     distances: &[f64],
     times: &[f64],
     vehicle: Vehicle,
-) -> Number
-    ensures { number_told result ≡ public_gain_floor (problem n demand.now service.now ready.now due.now penalty.now flags.now
+) -> Result<f64, Refusal>
+    ensures { told result ≡ public_gain_floor (problem n demand.now service.now ready.now due.now penalty.now flags.now
         distances.now times.now vehicle) }
 {
-    let r = problem_refusal(
+    problem_refusal(
         n, demand, service, ready, due, penalty, flags, distances, times, vehicle,
-    );
-    if r != 0 {
-        return Number::Refused(r);
-    }
+    )?;
     let floor = planner_questions::route_cost_gain_floor(distances);
-    Number::Answered(floor)
+    Ok(floor)
 }
 
 // A window of two finite numbers in order. It is never refused.
-pub fn time_window_new(ready: f64, due: f64) -> Window
+pub fn time_window_new(ready: f64, due: f64) -> Option<TimeWindow>
     ensures { result ≡ public_time_window_new ready due }
 {
     TimeWindow::new(ready, due)

@@ -10,7 +10,7 @@ use route_asked::ask_of_route;
 use same_answers::{of_number, of_window, same_stored};
 
 // Of the crates below, passed on to those above.
-pub use problem_questions::{Limit, Rest, Vehicle};
+pub use problem_questions::{Vehicle, VehicleBreak};
 pub use same_answers::Stored;
 
 // The answer to a question. Two floats are the window that `time_window_new` is given.

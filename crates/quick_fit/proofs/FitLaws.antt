@@ -1,4 +1,5 @@
 -- Laws of specs/Quick on the test of one position, each from the facts that the code has where it needs it. Assumes nothing.
+use Rattle.std.specs.Prelude.{Option, Some, None}
 use Prim.Native.Nat.{ℕ, ◌-◌, ◌<◌, ◌≤◌}
 use native.Mathlib.Omega.{arith}
 use mathlib.Core.Path.{◌≡◌, refl, sym, ap, ◌∙◌}
@@ -14,8 +15,6 @@ use Rattle.quick_test.specs.laws.Loops.{cond_rule}
 use Rattle.quick_test.specs.models.Customer.{Customers}
 use Rattle.quick_test.specs.models.Problem.{DistanceMatrix, Stops}
 use Rattle.quick_test.specs.distance.Matrix.{travel_time}
-use Rattle.quick_test.specs.evaluation.declared.check.Left.{Left}
-use Rattle.quick_test.specs.evaluation.declared.check.Left.TheVariants.{Missed, At as LeftAt}
 use Rattle.quick_test.specs.route_cost.Route.{prev_stop}
 use Rattle.quick_test.specs.Quick.{in_time, reaches_next, left_before, may_fit}
 use Rattle.quick_test.specs.Parts.{leave, next_in_time}
@@ -59,21 +58,21 @@ same_bound true n latest pos arrival e = ap (in_time arrival) (sym (get_or-take 
 same_bound false n latest pos arrival e = refl
 
 module _ (cs : Customers) (m : DistanceMatrix) (depot : ℕ) (route : List ℕ) (departures latest : List Float) (pos c : ℕ) where
-  by_parts : (before : Float) (prev : ℕ) (s : Left) → pos ≤ length route → before ≡ left_before departures pos → prev ≡ prev_stop depot route pos
+  by_parts : (before : Float) (prev : ℕ) (s : Option Float) → pos ≤ length route → before ≡ left_before departures pos → prev ≡ prev_stop depot route pos
       → s ≡ leave cs m before prev c
       → may_fit cs m depot route (take (length route) departures) (take (length route) latest) pos c
       ≡ reaches_next m route (take (length route) latest) pos c s
   unfolding may_fit leave
   by_parts before prev s h eb ep es = rw (same_departure (eqb pos 0) (length route) departures pos h refl, ← eb, ← ep, ← es)
 
-  pub fit_missed : (before : Float) (prev : ℕ) (s : Left) → pos ≤ length route → before ≡ left_before departures pos → prev ≡ prev_stop depot route pos
-      → s ≡ leave cs m before prev c → s ≡ Missed
+  pub fit_missed : (before : Float) (prev : ℕ) (s : Option Float) → pos ≤ length route → before ≡ left_before departures pos → prev ≡ prev_stop depot route pos
+      → s ≡ leave cs m before prev c → s ≡ None
       → false ≡ may_fit cs m depot route (take (length route) departures) (take (length route) latest) pos c
   fit_missed before prev s h eb ep es e =
       sym (by_parts before prev s h eb ep es ∙ ap (reaches_next m route (take (length route) latest) pos c) e)
 
-  pub fit_left : (before : Float) (prev : ℕ) (s : Left) (left : Float) (v : Bool) → pos ≤ length route → before ≡ left_before departures pos
-      → prev ≡ prev_stop depot route pos → s ≡ leave cs m before prev c → s ≡ LeftAt left → v ≡ next_in_time m route latest pos c left
+  pub fit_left : (before : Float) (prev : ℕ) (s : Option Float) (left : Float) (v : Bool) → pos ≤ length route → before ≡ left_before departures pos
+      → prev ≡ prev_stop depot route pos → s ≡ leave cs m before prev c → s ≡ Some left → v ≡ next_in_time m route latest pos c left
       → v ≡ may_fit cs m depot route (take (length route) departures) (take (length route) latest) pos c
   unfolding next_in_time
   fit_left before prev s left v h eb ep es e ev =

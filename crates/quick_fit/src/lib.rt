@@ -12,10 +12,9 @@ use quick_test::{abs, max, prev_stop};
 
 // Of the crates below, passed on to those above.
 pub use quick_test::{
-    Counts, Insertion, Left, LocalSearchNext, Pick, Reduction, RouteCostBest, Vehicle, Window,
-    checked, constrained, copy_part, customer_at, feasible, has_room, infinity, insertion_cost,
-    leave, min, next_pick, offset, put_in, rounds, take_out, travel_time, trial_ok,
-    within_capacity,
+    Counts, Insertion, LocalSearchNext, Pick, Reduction, TimeWindow, Vehicle, checked, constrained,
+    copy_part, customer_at, feasible, has_room, infinity, insertion_cost, leave, min, next_pick,
+    offset, put_in, rounds, take_out, travel_time, trial_ok, within_capacity,
 };
 
 // Whether an arrival is by a bound, with room for rounding. A bound of -infinity makes a NaN, and the answer is no.
@@ -94,10 +93,9 @@ pub fn may_fit(
 {
     let before = left_before(departures, pos);
     let prev = prev_stop(depot, route, pos);
-    let done = leave(
+    let Some(left) = leave(
         before, prev, c, n, distances, times, service, ready, due, penalty, flags,
-    );
-    let Left::At(left) = done else {
+    ) else {
         return false;
     };
     next_in_time(left, route, latest, pos, c, n, distances, times)

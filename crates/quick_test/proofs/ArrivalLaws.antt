@@ -1,12 +1,12 @@
 -- Laws of specs/Quick on the latest arrival at one stop, each from the facts that the code has where it needs it. Assumes nothing.
+use Rattle.std.specs.Prelude.{Option, None}
 use Prim.Native.Nat.{ℕ}
 use mathlib.Core.Path.{◌≡◌}
 use mathlib.Core.Bool.{true, false}
 use lib.Ieee.{Float, neg, lt}
 use Rattle.insertion_cost.specs.floats.Binary64.{◌⊖◌, +∞, min}
-use Rattle.insertion_cost.specs.models.declared.customer.Window.{Window}
-use Rattle.insertion_cost.specs.models.declared.customer.Window.TheVariants.{None as NoWindow}
 use Rattle.insertion_cost.specs.models.declared.customer.Customer.{Customer}
+use Rattle.insertion_cost.specs.models.declared.customer.TimeWindow.{TimeWindow}
 use Rattle.insertion_cost.specs.models.Problem.{DistanceMatrix}
 use Rattle.insertion_cost.specs.distance.Matrix.{travel_time}
 use Rattle.quick_test.specs.Quick.{earliest_start, latest_start, latest_arrival}
@@ -14,11 +14,11 @@ use Rattle.quick_test.specs.Parts.{latest_in}
 
 -- ---- one stop
 
-pub earliest_none : (window : Window) (top : Float) → window ≡ NoWindow → top ≡ +∞ → neg top ≡ earliest_start window
+pub earliest_none : (window : Option TimeWindow) (top : Float) → window ≡ None → top ≡ +∞ → neg top ≡ earliest_start window
 unfolding neg
 earliest_none window top e et = rw (e, et)
 
-module _ (start-by : Float) (window : Window) (earliest : Float) (e : earliest ≡ earliest_start window) where
+module _ (start-by : Float) (window : Option TimeWindow) (earliest : Float) (e : earliest ≡ earliest_start window) where
   pub latest_never : (top : Float) → lt start-by earliest ≡ true → top ≡ +∞ → neg top ≡ latest_in start-by window
   unfolding latest_in neg
   latest_never top h et = rw (← e, h, et)

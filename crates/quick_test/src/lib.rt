@@ -12,28 +12,27 @@ use insertion_cost::Customer;
 
 // Of the crates below, passed on to those above.
 pub use insertion_cost::{
-    Counts, Insertion, Left, LocalSearchNext, Pick, Reduction, RouteCostBest, Vehicle, Window, abs,
-    checked, constrained, copy_part, customer_at, feasible, has_room, infinity, insertion_cost,
-    max, min, next_pick, offset, prev_stop, put_in, rounds, take_out, travel_time, trial_ok,
-    within_capacity,
+    Counts, Insertion, LocalSearchNext, Pick, Reduction, TimeWindow, Vehicle, abs, checked,
+    constrained, copy_part, customer_at, feasible, has_room, infinity, insertion_cost, max, min,
+    next_pick, offset, prev_stop, put_in, rounds, take_out, travel_time, trial_ok, within_capacity,
 };
 
-// When the service of a customer ends after `arrival`; missed once its window has closed, with a penalty or without.
-pub fn served_at(arrival: f64, customer: Customer) -> Left
+// When the service of a customer ends after `arrival`; none once its window has closed, with a penalty or without.
+#[tactic(auto, unfolding(crate::specs::Quick::served_at))]
+pub fn served_at(arrival: f64, customer: Customer) -> Option<f64>
     ensures { result ≡ served_at arrival customer }
 {
-    let window = customer.time_window;
-    let Window::Is(tw) = window else {
-        return Left::At(arrival + customer.service_duration);
+    let Some(tw) = customer.time_window else {
+        return Some(arrival + customer.service_duration);
     };
     if arrival > tw.due {
-        return Left::Missed;
+        return None;
     }
-    let start = arrival + tw.waiting_time(arrival);
-    Left::At(start + customer.service_duration)
+    Some(arrival + tw.waiting_time(arrival) + customer.service_duration)
 }
 
 // The drive from `prev`, left at `time`, to c and the service there.
+#[tactic(auto, unfolding(crate::specs::Parts::leave))]
 pub fn leave(
     time: f64,
     prev: usize,
@@ -46,7 +45,7 @@ pub fn leave(
     due: &[f64],
     penalty: &[f64],
     flags: &[u8],
-) -> Left
+) -> Option<f64>
     requires fit { Fit (customers service.now ready.now due.now penalty.now flags.now) (matrix n distances.now times.now) }
     requires prev_lt_n { (prev < n) × (c < n) }
     ensures { result ≡ leave (customers service.now ready.now due.now penalty.now flags.now)

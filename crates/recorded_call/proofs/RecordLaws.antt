@@ -2,11 +2,13 @@
 use Prim.Native.Nat.{ℕ, ◌+◌, ◌*◌, ◌≤◌}
 use mathlib.Core.Path.{◌≡◌, ap, ◌∙◌}
 use mathlib.Core.List.{List, ◌++◌}
+use Rattle.std.specs.Prelude.{Result}
 use lib.ListN.{length, drop}
 use Rattle.call_history.specs.models.Problem.{Problem}
-use Rattle.call_history.specs.planner.declared.calls.Replied.{Replied}
+use Rattle.call_history.specs.local_search.declared.rounds.Reduction.{Reduction}
+use Rattle.call_history.specs.entry.refusal.declared.Refusal.{Refusal}
 use Rattle.call_history.specs.planner.Calls.{Reply}
-use Rattle.call_history.specs.planner.Told.{replied_told, reply_of}
+use Rattle.call_history.specs.planner.Told.{told, reply_of}
 use Rattle.call_history.specs.planner.Run.{call}
 use Rattle.call_history.specs.call_words.declared.Words.{Words}
 use Rattle.call_history.specs.call_words.Words.{Buffers, plan_slices, both_slices, words_at, call_of, answer_words, put}
@@ -19,9 +21,9 @@ lent_same v e h = rw e h
 pub room_same : (i : ℕ) {l s m t size : ℕ} → m ≡ l → t ≡ s → i * (l + s) + (l + s) ≤ size → i * (m + t) + (m + t) ≤ size
 room_same i e f h = rw (e, f) h
 
-pub one_recorded : (i from next : ℕ) (p : Problem) (calls tapes : List ℕ) (before after : Buffers) (w : Words) (a : Replied) → w ≡ words_at i calls
+pub one_recorded : (i from next : ℕ) (p : Problem) (calls tapes : List ℕ) (before after : Buffers) (w : Words) (a : Result Reduction Refusal) → w ≡ words_at i calls
     → reply_of a after.lengths after.stops ≡ call p (plan_slices before) (call_of w (drop from tapes))
-    → after.answers ≡ put before.answers (i * 4) (answer_words (replied_told a))
+    → after.answers ≡ put before.answers (i * 4) (answer_words (told a))
     → after.history ≡ put before.history (i * both_slices after) (after.lengths ++ after.stops)
     → length after.lengths ≡ length before.lengths → length after.stops ≡ length before.stops → next ≡ from + w.tape
     → Recorded i from next p calls tapes before after

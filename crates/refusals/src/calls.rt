@@ -1,13 +1,13 @@
-// What each public call is refused with: the number of the first row that applies, 0 where none does.
+// What each public call is refused with: the first row that applies.
 ghost use Rattle.std.specs.Prelude.{◌≡◌};
 ghost use Rattle.refusal_rows.specs.models.Problem.{problem};
 ghost use Rattle.refusal_rows.specs.plan.Plan.{Slices};
 ghost use Rattle.refusal_rows.specs.entry.Table.{Work, refusal};
-ghost use Rattle.refusal_rows.specs.entry.Given.{numbered, problem_inputs, route_inputs, schedule_inputs, eliminate_inputs, minimise_inputs};
+ghost use Rattle.refusal_rows.specs.entry.Given.{row_of, problem_inputs, route_inputs, schedule_inputs, eliminate_inputs, minimise_inputs};
 
 use refusal_rows::{
-    Vehicle, VehicleBreak, break_passes, minimise_rows, plan_rows, problem_rows, route_rows,
-    work_rows,
+    Refusal, Vehicle, VehicleBreak, break_passes, minimise_rows, plan_rows, problem_rows,
+    route_rows, work_rows,
 };
 
 // A call that is given the problem alone: rows 1 to 4.
@@ -22,8 +22,8 @@ pub fn problem_refusal(
     distances: &[f64],
     times: &[f64],
     vehicle: Vehicle,
-) -> u8
-    ensures { numbered result ≡ refusal (problem_inputs (problem n demand.now service.now ready.now due.now penalty.now flags.now
+) -> Result<(), Refusal>
+    ensures { row_of result ≡ refusal (problem_inputs (problem n demand.now service.now ready.now due.now penalty.now flags.now
         distances.now times.now vehicle)) }
 {
     problem_rows(
@@ -44,16 +44,13 @@ pub fn route_refusal(
     distances: &[f64],
     times: &[f64],
     vehicle: Vehicle,
-) -> u8
-    ensures { numbered result ≡ refusal (route_inputs (problem n demand.now service.now ready.now due.now penalty.now flags.now
+) -> Result<(), Refusal>
+    ensures { row_of result ≡ refusal (route_inputs (problem n demand.now service.now ready.now due.now penalty.now flags.now
         distances.now times.now vehicle) route.now) }
 {
-    let r = problem_rows(
+    problem_rows(
         true, n, demand, service, ready, due, penalty, flags, distances, times, vehicle,
-    );
-    if r != 0 {
-        return r;
-    }
+    )?;
     route_rows(n, vehicle, route)
 }
 
@@ -71,17 +68,14 @@ pub fn schedule_refusal(
     distances: &[f64],
     times: &[f64],
     vehicle: Vehicle,
-) -> u8
-    ensures { numbered result ≡ refusal (schedule_inputs (problem n demand.now service.now ready.now due.now penalty.now flags.now
+) -> Result<(), Refusal>
+    ensures { row_of result ≡ refusal (schedule_inputs (problem n demand.now service.now ready.now due.now penalty.now flags.now
         distances.now times.now vehicle) rest route.now) }
 {
-    let beside = break_passes(rest.earliest, rest.latest, rest.duration);
-    let r = problem_rows(
+    let beside = break_passes(rest);
+    problem_rows(
         beside, n, demand, service, ready, due, penalty, flags, distances, times, vehicle,
-    );
-    if r != 0 {
-        return r;
-    }
+    )?;
     route_rows(n, vehicle, route)
 }
 
@@ -101,20 +95,14 @@ pub fn eliminate_refusal(
     vehicle: Vehicle,
     small: usize,
     wide: usize,
-) -> u8
-    ensures { numbered result ≡ refusal (eliminate_inputs (problem n demand.now service.now ready.now due.now penalty.now flags.now
+) -> Result<(), Refusal>
+    ensures { row_of result ≡ refusal (eliminate_inputs (problem n demand.now service.now ready.now due.now penalty.now flags.now
         distances.now times.now vehicle) (record { lengths = lengths.entry.now; stops = stops.now }) (record { u16_cells = small; f64_cells = wide })) }
 {
-    let r = problem_rows(
+    problem_rows(
         true, n, demand, service, ready, due, penalty, flags, distances, times, vehicle,
-    );
-    if r != 0 {
-        return r;
-    }
-    let q = plan_rows(n, vehicle, lengths, stops);
-    if q != 0 {
-        return q;
-    }
+    )?;
+    plan_rows(n, vehicle, lengths, stops)?;
     work_rows(small, wide)
 }
 
@@ -136,19 +124,13 @@ pub fn minimise_refusal(
     limit: u64,
     small: usize,
     wide: usize,
-) -> u8
-    ensures { numbered result ≡ refusal (minimise_inputs (problem n demand.now service.now ready.now due.now penalty.now flags.now
+) -> Result<(), Refusal>
+    ensures { row_of result ≡ refusal (minimise_inputs (problem n demand.now service.now ready.now due.now penalty.now flags.now
         distances.now times.now vehicle) (record { lengths = lengths.entry.now; stops = stops.now }) tape.now limit (record { u16_cells = small; f64_cells = wide })) }
 {
-    let r = problem_rows(
+    problem_rows(
         true, n, demand, service, ready, due, penalty, flags, distances, times, vehicle,
-    );
-    if r != 0 {
-        return r;
-    }
-    let q = plan_rows(n, vehicle, lengths, stops);
-    if q != 0 {
-        return q;
-    }
+    )?;
+    plan_rows(n, vehicle, lengths, stops)?;
     minimise_rows(tape, limit, small, wide)
 }

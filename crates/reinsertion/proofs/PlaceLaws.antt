@@ -4,7 +4,7 @@ use native.Mathlib.Omega.{arith}
 use mathlib.Core.Path.{◌≡◌, refl, ◌∙◌}
 use mathlib.Core.Bool.{Bool, true, false, cond, not, ◌&&◌, ◌||◌}
 use mathlib.Core.List.{List, []}
-use mathlib.Core.Option.{Option, some}
+use Rattle.std.proofs.Common.{Option, Some}
 use lib.ListN.{length}
 use lib.IntN.{ℤ}
 use lib.Ieee.{Float}
@@ -16,8 +16,6 @@ use Rattle.reinsertion_candidates.specs.laws.Loops.{loop, loop_none, loop_more, 
 use Rattle.reinsertion_candidates.specs.models.declared.vehicle.Vehicle.{Vehicle}
 use Rattle.reinsertion_candidates.specs.models.Problem.{Problem, problem, of_demand}
 use Rattle.reinsertion_candidates.specs.route_cost.declared.Insertion.{Insertion}
-use Rattle.reinsertion_candidates.specs.route_cost.declared.Best.{Best}
-use Rattle.reinsertion_candidates.specs.route_cost.Route.{chosen}
 use Rattle.reinsertion_candidates.specs.route_load.Feasible.{has_room}
 use Rattle.reinsertion_candidates.specs.LocalSearchReadLaws.{room_any}
 use Rattle.reinsertion_candidates.specs.declared.Move.{Move}
@@ -30,7 +28,7 @@ use Rattle.reinsertion_candidates.specs.Asked.{Looked}
 module _ (p : Problem) (m : Move) (k : ℕ) (r : List ℕ) (pos : ℕ) (best : Option Insertion) (x : Float) (g : Looked p m r)
     (ex : x ≡ insertion_worth p r pos m.c) (v : Bool) (ev : v ≡ ((not m.soft || is_finite x) && comes_first x best)) where
   abbrev taken : Option Insertion
-  taken = cond (settles p m.c m.added m.saved r pos x) (some (record { cost = x; route = k; pos = pos })) best
+  taken = cond (settles p m.c m.added m.saved r pos x) (Some (record { cost = x; route = k; pos = pos })) best
 
   both : cond v taken best ≡ look_at p m.c m.added m.saved k r pos best
   unfolding look_at
@@ -50,39 +48,39 @@ module _ (p : Problem) (m : Move) (k : ℕ) (r : List ℕ) (pos : ℕ) (best : O
     pub look_refused : w ≡ false → best ≡ look_at p m.c m.added m.saved k r pos best
     look_refused f = rw (← ew, f) at led
 
-    pub look_taken : w ≡ true → some (record { cost = x; route = k; pos = pos }) ≡ look_at p m.c m.added m.saved k r pos best
+    pub look_taken : w ≡ true → Some (record { cost = x; route = k; pos = pos }) ≡ look_at p m.c m.added m.saved k r pos best
     look_taken f = rw (← ew, f) at led
 
 -- ---- the loop: what the positions before pos leave of the best so far
 
-pub record Looking (p : Problem) (m : Move) (k : ℕ) (r : List ℕ) (before : Float) (first found : Best) (pos : ℕ) : Type 0 where
+pub record Looking (p : Problem) (m : Move) (k : ℕ) (r : List ℕ) (before : Float) (first found : Option Insertion) (pos : ℕ) : Type 0 where
   pub looked : Looked p m r
   pub told : before ≡ current p r
   pub within : pos ≤ suc (length r)
-  pub same : chosen found ≡ loop pos (look_at p m.c m.added m.saved k r) (chosen first)
+  pub same : found ≡ loop pos (look_at p m.c m.added m.saved k r) first
 
-module _ (p : Problem) (m : Move) (k : ℕ) (r : List ℕ) (before : Float) (first : Best) where
+module _ (p : Problem) (m : Move) (k : ℕ) (r : List ℕ) (before : Float) (first : Option Insertion) where
   pub looking_start : Looked p m r → before ≡ current p r → Looking p m k r before first first 0
   looking_start g e =
-      record { looked = g; told = e; within = omega arith; same = loop_none (look_at p m.c m.added m.saved k r) (chosen first) }
+      record { looked = g; told = e; within = omega arith; same = loop_none (look_at p m.c m.added m.saved k r) first }
 
-  module _ (found : Best) (pos : ℕ) (g : Looking p m k r before first found pos) where
+  module _ (found : Option Insertion) (pos : ℕ) (g : Looking p m k r before first found pos) where
     pub looking_next : pos ≤ length r → Fits w64 (pos + 1)
     looking_next h = record { fits = omega (arith, g.looked.few) }
 
-    pub looking_more : (next : Best) → pos ≤ length r → chosen next ≡ look_at p m.c m.added m.saved k r pos (chosen found)
+    pub looking_more : (next : Option Insertion) → pos ≤ length r → next ≡ look_at p m.c m.added m.saved k r pos found
         → Looking p m k r before first next (pos + 1)
     looking_more next h e =
         record {
           looked = g.looked;
           told = g.told;
           within = omega arith;
-          same = loop_more (look_at p m.c m.added m.saved k r) (chosen first) pos (chosen found) (chosen next) g.same e;
+          same = loop_more (look_at p m.c m.added m.saved k r) first pos found next g.same e;
         }
 
-    pub looking_end : length r < pos → chosen found ≡ loop (suc (length r)) (look_at p m.c m.added m.saved k r) (chosen first)
+    pub looking_end : length r < pos → found ≡ loop (suc (length r)) (look_at p m.c m.added m.saved k r) first
     looking_end h =
-        loop_end (look_at p m.c m.added m.saved k r) (chosen first) pos (suc (length r)) (chosen found) g.same (omega (arith, g.within))
+        loop_end (look_at p m.c m.added m.saved k r) first pos (suc (length r)) found g.same (omega (arith, g.within))
 
 pub ruleset looking_laws = (rules, looking_start, looking_next, looking_end)
 

@@ -6,20 +6,17 @@ ghost use Rattle.std.specs.Prelude.{◌≡◌, [], suc, ◌-◌, ◌<◌, ◌≤
 ghost use Rattle.reinsertion_candidates.specs.laws.Loops.{loop};
 ghost use Rattle.reinsertion_candidates.specs.models.Problem.{problem, Stops};
 ghost use Rattle.reinsertion_candidates.specs.plan.Plan.{split};
-ghost use Rattle.reinsertion_candidates.specs.route_cost.Route.{chosen};
 ghost use Rattle.reinsertion_candidates.specs.reinsertion_worth.Worth.{current};
 ghost use Rattle.reinsertion_candidates.specs.Candidates.{candidates, by_cost, first_passing};
 ghost use Rattle.reinsertion_candidates.specs.Place.{look_at, look_through, look_over};
 ghost use Rattle.reinsertion_candidates.specs.Asked.{Asked, Looked, Room};
 
-use reinsertion_candidates::{
-    Insertion, RouteCostBest as Best, current, has_room, insertion_worth, leads, settles,
-};
+use reinsertion_candidates::{Insertion, current, has_room, insertion_worth, leads, settles};
 
 // Of the crates below, passed on to those above.
 pub use reinsertion_candidates::{
-    Counts, LocalSearchNext, Move, Pick, Reduction, RouteCostBest, Vehicle, constrained,
-    has_soft_windows, is_finite, next_pick, put_in, route_cost_gain_floor, worth,
+    Counts, LocalSearchNext, Move, Pick, Reduction, Vehicle, constrained, has_soft_windows,
+    is_finite, next_pick, put_in, route_cost_gain_floor, worth,
 };
 
 // One position of route k, which has room for the stop: the better of what it gives and the best so far.
@@ -28,7 +25,7 @@ fn look_at(
     pos: usize,
     k: usize,
     before: f64,
-    best: Best,
+    best: Option<Insertion>,
     stop: Move,
     vehicle: Vehicle,
     n: usize,
@@ -39,30 +36,30 @@ fn look_at(
     due: &[f64],
     penalty: &[f64],
     flags: &[u8],
-) -> Best
+) -> Option<Insertion>
     requires { Looked (problem n [] service.now ready.now due.now penalty.now flags.now distances.now times.now vehicle) stop route.now × (pos ≤ length route.now)
         × (before ≡ current (problem n [] service.now ready.now due.now penalty.now flags.now distances.now times.now vehicle) route.now) }
-    ensures { chosen result ≡ look_at (problem n [] service.now ready.now due.now penalty.now flags.now
-        distances.now times.now vehicle) stop.c stop.added stop.saved k route.now pos (chosen best) }
+    ensures { result ≡ look_at (problem n [] service.now ready.now due.now penalty.now flags.now
+        distances.now times.now vehicle) stop.c stop.added stop.saved k route.now pos best }
 {
     let cost = insertion_worth(
         route, pos, stop.c, before, stop.soft, vehicle, n, distances, times, service, ready, due,
         penalty, flags,
     );
-    if leads(cost, stop.soft, best) {
-        if settles(
+    if leads(cost, stop.soft, best)
+        && settles(
             route, pos, cost, stop, vehicle, n, distances, times, service, ready, due, penalty,
             flags,
-        ) {
-            return Best::At(Insertion {
-                cost: cost,
-                route: k,
-                pos: pos,
-            });
-        }
-        return best;
+        )
+    {
+        Some(Insertion {
+            cost: cost,
+            route: k,
+            pos: pos,
+        })
+    } else {
+        best
     }
-    best
 }
 
 // Every position of route k, which has room for the stop, its end too.
@@ -70,7 +67,7 @@ fn look_along(
     route: &[u16],
     k: usize,
     before: f64,
-    best: Best,
+    best: Option<Insertion>,
     stop: Move,
     vehicle: Vehicle,
     n: usize,
@@ -81,20 +78,18 @@ fn look_along(
     due: &[f64],
     penalty: &[f64],
     flags: &[u8],
-) -> Best
+) -> Option<Insertion>
     requires { Looked (problem n [] service.now ready.now due.now penalty.now flags.now distances.now times.now vehicle) stop route.now
         × (before ≡ current (problem n [] service.now ready.now due.now penalty.now flags.now distances.now times.now vehicle) route.now) }
-    ensures { chosen result ≡ loop (suc (length route.now)) (look_at (problem n [] service.now ready.now due.now penalty.now flags.now
-        distances.now times.now vehicle) stop.c stop.added stop.saved k route.now) (chosen best) }
+    ensures { result ≡ loop (suc (length route.now)) (look_at (problem n [] service.now ready.now due.now penalty.now flags.now
+        distances.now times.now vehicle) stop.c stop.added stop.saved k route.now) best }
 {
     let mut found = best;
-    let mut pos = 0;
-    while pos <= route.len() {
+    for pos in 0..route.len() + 1 {
         found = look_at(
             route, pos, k, before, found, stop, vehicle, n, distances, times, service, ready, due,
             penalty, flags,
         );
-        pos += 1;
     }
     found
 }
@@ -103,7 +98,7 @@ fn look_along(
 fn look_through(
     route: &[u16],
     k: usize,
-    best: Best,
+    best: Option<Insertion>,
     stop: Move,
     vehicle: Vehicle,
     demand: &[i32],
@@ -115,10 +110,10 @@ fn look_through(
     due: &[f64],
     penalty: &[f64],
     flags: &[u8],
-) -> Best
+) -> Option<Insertion>
     requires { Asked (problem n demand.now service.now ready.now due.now penalty.now flags.now distances.now times.now vehicle) stop × Stops n route.now × (length route.now < 256) }
-    ensures { chosen result ≡ look_through (problem n demand.now service.now ready.now due.now penalty.now flags.now
-        distances.now times.now vehicle) stop.c stop.added stop.saved k route.now (chosen best) }
+    ensures { result ≡ look_through (problem n demand.now service.now ready.now due.now penalty.now flags.now
+        distances.now times.now vehicle) stop.c stop.added stop.saved k route.now best }
 {
     let room = has_room(route, stop.c, demand, vehicle);
     if room {
@@ -139,7 +134,7 @@ fn look_part(
     at: usize,
     end: usize,
     k: usize,
-    best: Best,
+    best: Option<Insertion>,
     stop: Move,
     vehicle: Vehicle,
     demand: &[i32],
@@ -151,11 +146,11 @@ fn look_part(
     due: &[f64],
     penalty: &[f64],
     flags: &[u8],
-) -> Best
+) -> Option<Insertion>
     requires { Asked (problem n demand.now service.now ready.now due.now penalty.now flags.now distances.now times.now vehicle) stop × (at ≤ end) × (end ≤ length stops.now)
         × Stops n (take (end - at) (drop at stops.now)) × (end - at < 256) }
-    ensures { chosen result ≡ look_through (problem n demand.now service.now ready.now due.now penalty.now flags.now
-        distances.now times.now vehicle) stop.c stop.added stop.saved k (take (end - at) (drop at stops.now)) (chosen best) }
+    ensures { result ≡ look_through (problem n demand.now service.now ready.now due.now penalty.now flags.now
+        distances.now times.now vehicle) stop.c stop.added stop.saved k (take (end - at) (drop at stops.now)) best }
 {
     look_through(
         &stops[at..end],
@@ -190,22 +185,20 @@ fn look_over(
     due: &[f64],
     penalty: &[f64],
     flags: &[u8],
-) -> Best
+) -> Option<Insertion>
     requires { Asked (problem n demand.now service.now ready.now due.now penalty.now flags.now distances.now times.now vehicle) stop × Room n lengths.now stops.now }
-    ensures { chosen result ≡ look_over (problem n demand.now service.now ready.now due.now penalty.now flags.now
+    ensures { result ≡ look_over (problem n demand.now service.now ready.now due.now penalty.now flags.now
         distances.now times.now vehicle) stop.c stop.added stop.saved (split lengths.now stops.now) }
 {
-    let mut best = Best::Nothing;
+    let mut best = None;
     let mut at = 0;
-    let mut k = 0;
-    while k < lengths.len() {
-        let end = at + lengths[k] as usize;
+    for (k, length) in lengths.iter().enumerate() {
+        let end = at + *length as usize;
         best = look_part(
             stops, at, end, k, best, stop, vehicle, demand, n, distances, times, service, ready,
             due, penalty, flags,
         );
         at = end;
-        k += 1;
     }
     best
 }
@@ -225,22 +218,20 @@ pub fn place(
     due: &[f64],
     penalty: &[f64],
     flags: &[u8],
-) -> Best
+) -> Option<Insertion>
     requires { Asked (problem n demand.now service.now ready.now due.now penalty.now flags.now distances.now times.now vehicle) stop × Room n lengths.now stops.now }
-    ensures { chosen result ≡ first_passing (problem n demand.now service.now ready.now due.now penalty.now flags.now
+    ensures { result ≡ first_passing (problem n demand.now service.now ready.now due.now penalty.now flags.now
         distances.now times.now vehicle) (split lengths.now stops.now) stop.c stop.added stop.saved
         (by_cost (candidates (problem n demand.now service.now ready.now due.now penalty.now flags.now
         distances.now times.now vehicle) stop.c (split lengths.now stops.now))) }
 {
-    let best = look_over(
+    let found = look_over(
         lengths, stops, stop, vehicle, demand, n, distances, times, service, ready, due, penalty,
         flags,
-    );
-    let Best::At(found) = best else {
-        return Best::Nothing;
-    };
+    )?;
     if stop.added + found.cost >= stop.saved {
-        return Best::Nothing;
+        None
+    } else {
+        Some(found)
     }
-    best
 }

@@ -5,7 +5,7 @@ use Rattle.std.proofs.Math.Path.{refl}
 use Rattle.std.proofs.Common.{ap, sym, ◌∙◌}
 use mathlib.Core.List.{List, [], ◌∷◌, map}
 use Rattle.std.proofs.Math.Bool.{true, false, cond}
-use Rattle.std.proofs.Math.Option.{Option, none, some}
+use Rattle.std.specs.Prelude.{Option, None, Some}
 use Rattle.std.specs.Float.Ieee.{le}
 use Rattle.reinsertion_worth.specs.floats.Binary64.{◌⊕◌, is_finite, total_rank, total_less}
 use Rattle.reinsertion_worth.specs.laws.Edits.{insert_at}
@@ -39,7 +39,7 @@ module _ (p : Problem) (rest : Plan) (c : ℕ) (added saved : Float) where
   passing_found (x ∷ xs) = go (le saved (added ⊕ x.cost)) (checked p (trial rest c x)) refl (passing_found xs)
     where
       go : (a b : Bool) → le saved (added ⊕ x.cost) ≡ a → first_passing p rest c added saved xs ≡ unless_cut added saved (find ends xs)
-          → cond a none (cond b (some x) (first_passing p rest c added saved xs)) ≡ unless_cut added saved (cond (a || b) (some x) (find ends xs))
+          → cond a None (cond b (Some x) (first_passing p rest c added saved xs)) ≡ unless_cut added saved (cond (a || b) (Some x) (find ends xs))
       go true b e h = rw e
       go false true e h = rw e
       go false false e h = h
@@ -50,8 +50,8 @@ module _ (p : Problem) (rest : Plan) (c : ℕ) (added saved : Float) where
 
     turn : (pos : ℕ) (best : Option Insertion) → cond (counts p (at pos).cost) (better cheaper ends best (at pos)) best ≡ look_at p c added saved k (route k rest) pos best
     unfolding better look_at
-    turn pos none = refl
-    turn pos (some b) = refl
+    turn pos None = refl
+    turn pos (Some b) = refl
 
     -- the candidates of a route one after the other
     along : (best : Option Insertion) → foldl (better cheaper ends) best (positions p c k (route k rest)) ≡ loop (suc (length (route k rest))) (look_at p c added saved k (route k rest)) best
@@ -72,12 +72,12 @@ module _ (p : Problem) (rest : Plan) (c : ℕ) (added saved : Float) where
         go true h = h
         go false h = refl
 
-  over : foldl (better cheaper ends) none (candidates p c rest) ≡ look_over p c added saved rest
+  over : foldl (better cheaper ends) None (candidates p c rest) ≡ look_over p c added saved rest
   unfolding candidates look_over
   over =
-      foldl_flat (better cheaper ends) (λ k. candidates_in p c k (route k rest)) none (range 0 (length rest))
-      ∙ foldl_range (λ (t : Option Insertion) (k : ℕ). foldl (better cheaper ends) t (candidates_in p c k (route k rest))) none (length rest)
-      ∙ loop_same (length rest) (λ k t. foldl (better cheaper ends) t (candidates_in p c k (route k rest))) (λ k. look_through p c added saved k (route k rest)) none through
+      foldl_flat (better cheaper ends) (λ k. candidates_in p c k (route k rest)) None (range 0 (length rest))
+      ∙ foldl_range (λ (t : Option Insertion) (k : ℕ). foldl (better cheaper ends) t (candidates_in p c k (route k rest))) None (length rest)
+      ∙ loop_same (length rest) (λ k t. foldl (better cheaper ends) t (candidates_in p c k (route k rest))) (λ k. look_through p c added saved k (route k rest)) None through
 
   pub place_is : unless_cut added saved (look_over p c added saved rest) ≡ first_passing p rest c added saved (by_cost (candidates p c rest))
   place_is =

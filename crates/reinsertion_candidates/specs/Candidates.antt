@@ -1,7 +1,7 @@
 -- The place for a stop: the first candidate by cost that passes (route_elimination.rs, the body of `for c in moving`). Assumes nothing.
 use Rattle.std.specs.Prelude.{ℕ, suc, cond, not, ◌||◌, length, Float}
 use mathlib.Core.List.{List, [], ◌∷◌, map, flat_map}
-use Rattle.std.proofs.Math.Option.{Option, none, some}
+use Rattle.std.specs.Prelude.{Option, None, Some}
 use Rattle.std.specs.Float.Ieee.{le}
 use Rattle.reinsertion_worth.specs.floats.Binary64.{◌⊕◌, 0f, is_finite, total_less}
 use Rattle.reinsertion_worth.specs.laws.Edits.{insert_at}
@@ -41,7 +41,7 @@ trial rest c x = insert_at x.pos c (route x.route rest)
 
 -- the first candidate that passes the check, where it is needed: "stop at added + cost ≥ saved"
 unfoldable pub first_passing : Problem → Plan → ℕ → Float → Float → List Insertion → Option Insertion
-first_passing p rest c added saved [] = none
+first_passing p rest c added saved [] = None
 first_passing p rest c added saved (x ∷ xs) =
     let later = first_passing p rest c added saved xs in
-    cond (le saved (added ⊕ x.cost)) none (cond (checked p (trial rest c x)) (some x) later)
+    cond (le saved (added ⊕ x.cost)) None (cond (checked p (trial rest c x)) (Some x) later)

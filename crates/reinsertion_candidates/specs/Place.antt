@@ -7,7 +7,7 @@ use Rattle.std.proofs.Math.Path.{refl}
 use Rattle.std.proofs.Common.{ap, sym, ◌∙◌}
 use mathlib.Core.List.{List, [], ◌∷◌, map}
 use Rattle.std.proofs.Math.Bool.{true, false, cond}
-use Rattle.std.proofs.Math.Option.{Option, none, some}
+use Rattle.std.specs.Prelude.{Option, None, Some}
 use Rattle.std.specs.Float.Ieee.{le}
 use Rattle.reinsertion_worth.specs.floats.Binary64.{◌⊕◌, is_finite, total_rank, total_less}
 use Rattle.reinsertion_worth.specs.laws.Edits.{insert_at}
@@ -29,8 +29,8 @@ counts p x = not (soft p) || is_finite x
 
 -- a cost comes before that of the best so far by `total_cmp`
 abbrev pub comes_first : Float → Option Insertion → Bool
-comes_first x none = true
-comes_first x (some best) = total_less x best.cost
+comes_first x None = true
+comes_first x (Some best) = total_less x best.cost
 
 -- a candidate that ends the search through the sorted list: "stop at added + cost ≥ saved", or it passes the check where it is needed
 abbrev pub settles : Problem → ℕ → Float → Float → List ℕ → ℕ → Float → Bool
@@ -40,7 +40,7 @@ settles p c added saved r pos x = le saved (added ⊕ x) || checked p (insert_at
 unfoldable pub look_at : Problem → ℕ → Float → Float → ℕ → List ℕ → ℕ → Option Insertion → Option Insertion
 look_at p c added saved k r pos best =
     let x = insertion_worth p r pos c in
-    cond (counts p x) (cond (comes_first x best) (cond (settles p c added saved r pos x) (some (record { cost = x; route = k; pos = pos })) best) best) best
+    cond (counts p x) (cond (comes_first x best) (cond (settles p c added saved r pos x) (Some (record { cost = x; route = k; pos = pos })) best) best) best
 
 -- after route k: every position, its end too, where it has room
 unfoldable pub look_through : Problem → ℕ → Float → Float → ℕ → List ℕ → Option Insertion → Option Insertion
@@ -48,9 +48,9 @@ look_through p c added saved k r best = cond (has_room p r c) (loop (suc (length
 
 -- after every route
 unfoldable pub look_over : Problem → ℕ → Float → Float → Plan → Option Insertion
-look_over p c added saved rest = loop (length rest) (λ k. look_through p c added saved k (route k rest)) none
+look_over p c added saved rest = loop (length rest) (λ k. look_through p c added saved k (route k rest)) None
 
 -- none where the best reaches the cut
 unfoldable pub unless_cut : Float → Float → Option Insertion → Option Insertion
-unless_cut added saved none = none
-unless_cut added saved (some x) = cond (le saved (added ⊕ x.cost)) none (some x)
+unless_cut added saved None = None
+unless_cut added saved (Some x) = cond (le saved (added ⊕ x.cost)) None (Some x)

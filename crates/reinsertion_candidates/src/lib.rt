@@ -5,16 +5,15 @@
 ghost use Rattle.std.specs.Prelude.{◌≡◌, not, ◌&&◌, ◌||◌, [], ◌≤◌, length};
 ghost use Rattle.reinsertion_worth.specs.floats.Binary64.{is_finite};
 ghost use Rattle.reinsertion_worth.specs.models.Problem.{problem};
-ghost use Rattle.reinsertion_worth.specs.route_cost.Route.{chosen};
 ghost use Rattle.reinsertion_candidates.specs.Place.{comes_first, settles};
 ghost use Rattle.reinsertion_candidates.specs.Asked.{Looked};
 
-use reinsertion_worth::{RouteCostBest as Best, total_less, trial_ok};
+use reinsertion_worth::{total_less, trial_ok};
 
 // Of the crates below, passed on to those above.
 pub use reinsertion_worth::{
-    Counts, Insertion, LocalSearchNext, Pick, Reduction, RouteCostBest, Vehicle, constrained,
-    current, cut, has_room, has_soft_windows, insertion_worth, is_finite, next_pick, put_in,
+    Counts, Insertion, LocalSearchNext, Pick, Reduction, Vehicle, constrained, current, cut,
+    has_room, has_soft_windows, insertion_worth, is_finite, next_pick, put_in,
     route_cost_gain_floor, worth,
 };
 
@@ -33,30 +32,21 @@ pub struct Move {
 fn counts(cost: f64, soft: bool) -> bool
     ensures { result ≡ (not soft || is_finite cost) }
 {
-    if soft {
-        return is_finite(cost);
-    }
-    true
+    !soft || is_finite(cost)
 }
 
 // Whether a cost comes before that of the best so far. An equal one does not, so the first found among equals stays.
-fn comes_first(cost: f64, best: Best) -> bool
-    ensures { result ≡ comes_first cost (chosen best) }
+fn comes_first(cost: f64, best: Option<Insertion>) -> bool
+    ensures { result ≡ comes_first cost best }
 {
-    let Best::At(found) = best else {
-        return true;
-    };
-    total_less(cost, found.cost)
+    best.is_none_or(|found| total_less(cost, found.cost))
 }
 
 // Whether a position makes a candidate that comes before the best so far.
-pub fn leads(cost: f64, soft: bool, best: Best) -> bool
-    ensures { result ≡ ((not soft || is_finite cost) && comes_first cost (chosen best)) }
+pub fn leads(cost: f64, soft: bool, best: Option<Insertion>) -> bool
+    ensures { result ≡ ((not soft || is_finite cost) && comes_first cost best) }
 {
-    if counts(cost, soft) {
-        return comes_first(cost, best);
-    }
-    false
+    counts(cost, soft) && comes_first(cost, best)
 }
 
 // Whether a candidate ends the search: it would cost as much as is saved, or the route with the stop put in passes the check.
@@ -79,22 +69,20 @@ pub fn settles(
     ensures { result ≡ settles (problem n [] service.now ready.now due.now penalty.now flags.now
         distances.now times.now vehicle) stop.c stop.added stop.saved route.now pos cost }
 {
-    if stop.added + cost >= stop.saved {
-        return true;
-    }
-    trial_ok(
-        route,
-        pos,
-        stop.c,
-        stop.needed,
-        vehicle,
-        n,
-        distances,
-        times,
-        service,
-        ready,
-        due,
-        penalty,
-        flags,
-    )
+    stop.added + cost >= stop.saved
+        || trial_ok(
+            route,
+            pos,
+            stop.c,
+            stop.needed,
+            vehicle,
+            n,
+            distances,
+            times,
+            service,
+            ready,
+            due,
+            penalty,
+            flags,
+        )
 }

@@ -18,8 +18,8 @@ use route_worth::{RouteLimits, effective_cost};
 
 // Of the crates below, passed on to those above.
 pub use insertion_cost::{
-    Counts, Insertion, LocalSearchNext, Pick, Reduction, RouteCostBest, constrained, cut, has_room,
-    next_pick, put_in, route_cost_gain_floor, trial_ok,
+    Counts, Insertion, LocalSearchNext, Pick, Reduction, constrained, cut, has_room, next_pick,
+    put_in, route_cost_gain_floor, trial_ok,
 };
 pub use route_worth::{Vehicle, has_soft_windows, is_finite, total_less};
 

@@ -3,21 +3,21 @@
 // capacity by their two's complement of 32 bits. The vehicle is capacity, depot, fixed cost, cost per distance, and after a 0 or 1 that says whether it is
 // there the distance limit, the duration limit and the break (earliest, latest, duration); a value that is not there is 0.
 use replayed_calls::{
-    FAULT, Limit, Rest, Vehicle, call_at, float_of, int_of, number_to, read_f64, read_i32, read_u8,
-    read_u16, stored_number as number,
+    FAULT, Vehicle, VehicleBreak, call_at, float_of, int_of, number_to, read_f64, read_i32,
+    read_u8, read_u16, stored_number as number,
 };
 
 // A limit, and the position after it.
 #[derive(Clone, Copy)]
 struct ReadLimit {
-    limit: Limit,
+    limit: Option<f64>,
     next: usize,
 }
 
 // A break, and the position after it.
 #[derive(Clone, Copy)]
 struct ReadRest {
-    rest: Rest,
+    rest: Option<VehicleBreak>,
     next: usize,
 }
 
@@ -33,13 +33,10 @@ fn limit_at(text: &[u8], at: usize) -> ReadLimit {
     let most = number(text, given.next);
     let next = most.next;
     if given.value == 0 {
-        return ReadLimit {
-            limit: Limit::None,
-            next,
-        };
+        return ReadLimit { limit: None, next };
     }
     ReadLimit {
-        limit: Limit::At(float_of(most.value)),
+        limit: Some(float_of(most.value)),
         next,
     }
 }
@@ -51,17 +48,14 @@ fn rest_at(text: &[u8], at: usize) -> ReadRest {
     let duration = number(text, latest.next);
     let next = duration.next;
     if given.value == 0 {
-        return ReadRest {
-            rest: Rest::None,
-            next,
-        };
+        return ReadRest { rest: None, next };
     }
     ReadRest {
-        rest: Rest::Break(
-            float_of(earliest.value),
-            float_of(latest.value),
-            float_of(duration.value),
-        ),
+        rest: Some(VehicleBreak {
+            earliest: float_of(earliest.value),
+            latest: float_of(latest.value),
+            duration: float_of(duration.value),
+        }),
         next,
     }
 }

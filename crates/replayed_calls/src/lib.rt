@@ -13,7 +13,7 @@ use stored::text::number;
 use tally::note;
 
 // Of the crates below, passed on to those above.
-pub use question_verdict::{Limit, Rest, Vehicle};
+pub use question_verdict::{Vehicle, VehicleBreak};
 pub use stored::slices::{read_f64, read_i32, read_u8, read_u16};
 pub use stored::text::{FAULT, at_end, number as stored_number, number_to};
 pub use stored::{float_of, int_of};

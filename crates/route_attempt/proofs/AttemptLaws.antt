@@ -3,6 +3,7 @@ use Prim.Native.Nat.{ℕ, ◌+◌, ◌-◌, ◌≤◌}
 use mathlib.Core.Path.{◌≡◌, sym, ap, subst, ◌∙◌}
 use mathlib.Core.Bool.{Bool}
 use mathlib.Core.List.{List, ◌++◌}
+use Rattle.std.proofs.Common.{Result, Ok, Err}
 use native.Mathlib.Omega.{arith}
 use lib.ListN.{length, take, drop, length-append, length-take, length-drop}
 use lib.Seq.{length-take-le}
@@ -13,8 +14,6 @@ use Rattle.plan_copy.specs.plan.Saved.{saved_lengths, saved_stops}
 use Rattle.route_without.specs.local_search.declared.rounds.Counts.{Counts}
 use Rattle.route_without.specs.local_search.Rounds.{Tried}
 use Rattle.route_without.specs.local_search.Search.{EndsWith0}
-use Rattle.route_without.specs.pool_attempt.declared.Attempted.{Attempted}
-use Rattle.route_without.specs.pool_attempt.declared.Attempted.TheVariants.{Kept, Accepted}
 use Rattle.route_without.specs.pool_attempt.Judged.{tried}
 use Rattle.route_without.specs.Attempting.{Attempting}
 use Rattle.route_attempt.specs.Leaves.{Leaves}
@@ -55,9 +54,9 @@ attempting_with free g h = record {
   cells_room = g.cells_room;
 }
 
-module _ (a : Attempted) (n : Counts) where
-  pub kept_tried : (plan : Plan) (t : Tried) → tried a plan ≡ t → a ≡ Kept n → tried (Kept n) plan ≡ t
-  kept_tried plan t e f = ap (λ (b : Attempted). tried b plan) (sym f) ∙ e
+module _ (a : Result Counts Counts) (n : Counts) where
+  pub kept_tried : (plan : Plan) (t : Tried) → tried a plan ≡ t → a ≡ Err n → tried (Err n) plan ≡ t
+  kept_tried plan t e f = ap (λ (b : Result Counts Counts). tried b plan) (sym f) ∙ e
 
-  pub accepted_leaves : (ls s L S : List ℕ) → EndsWith0 L S → a ≡ Accepted n → Leaves a ls s L S
-  accepted_leaves ls s L S h f = subst (λ (b : Attempted). Leaves b ls s L S) (sym f) h
+  pub accepted_leaves : (ls s L S : List ℕ) → EndsWith0 L S → a ≡ Ok n → Leaves a ls s L S
+  accepted_leaves ls s L S h f = subst (λ (b : Result Counts Counts). Leaves b ls s L S) (sym f) h

@@ -17,9 +17,9 @@ use route_without::{Counts, Vehicle, try_without};
 
 // Of the crates below, passed on to those above.
 pub use plan_copy::drop_empty;
-pub use route_without::Attempted;
 
-// The attempt at route r of a plan that costs `before`. Where the plan is kept both slices are as they were; the first work cells hold them meanwhile.
+// The attempt at route r of a plan that costs `before`. An error is a plan that is kept: both slices are as they were; the first work cells hold them
+// meanwhile. Either comes with the counts of the call so far.
 pub fn attempt(
     lengths: &mut [u16],
     stops: &mut [u16],
@@ -42,7 +42,7 @@ pub fn attempt(
     due: &[f64],
     penalty: &[f64],
     flags: &[u8],
-) -> Attempted
+) -> Result<Counts, Counts>
     requires attempting { Attempting (problem n demand.now service.now ready.now due.now penalty.now flags.now distances.now times.now vehicle) tape.now needed limit
         lengths.old stops.old work.old cells.old counted }
     requires r_in_bounds { (r < length lengths.old) × (before ≡ cost (problem n demand.now service.now ready.now due.now penalty.now flags.now distances.now times.now vehicle) (split lengths.old stops.old)) × (length lengths.old ≤ 256) × (767 ≤ length work.old) }
@@ -75,9 +75,9 @@ pub fn attempt(
         penalty,
         flags,
     );
-    if let Attempted::Kept(counts) = tried {
+    if let Err(counts) = tried {
         restore(lengths, stops, work);
-        return Attempted::Kept(counts);
+        return Err(counts);
     }
     tried
 }

@@ -8,14 +8,14 @@ ghost use Rattle.evaluation.specs.Check.{soft, has_time_windows, has_soft_window
 
 // Of the crates below, passed on to those above.
 pub use evaluation::check::{
-    Left, Reached, Way, home_allowed, reach, reach_all, route_feasible as evaluation_route_feasible,
+    Way, home_allowed, reach, reach_all, route_feasible as evaluation_route_feasible,
 };
-pub use evaluation::eval::{Walk, Walked, is_feasible, limited};
+pub use evaluation::eval::{Walk, is_feasible, limited};
 pub use evaluation::{
-    Customer, Eval, Penalty, Rest, Ridden, Riding, RouteEval, RouteLimits, Served, Taken, Vehicle,
-    VehicleBreak, Window, abs, break_schedule_schedule, check as evaluation_check, customer_at,
-    get, infinity, is_finite, largest, max, min, penalty_at, ride_all, ride_home, scale, serve_at,
-    total_less, travel_time, window_at,
+    Customer, Label, Riding, RouteEval, RouteLimits, TimeWindow, Vehicle, VehicleBreak, abs,
+    break_schedule_schedule, check as evaluation_check, customer_at, get, infinity, is_finite,
+    largest, max, min, penalty_at, ride_all, ride_home, scale, serve_at, total_less, travel_time,
+    window_at,
 };
 
 // Whether a place's flags say that it has a window.
@@ -29,47 +29,28 @@ fn is_windowed(flag: u8) -> bool
 fn is_soft(flag: u8) -> bool
     ensures { result ≡ soft flag }
 {
-    if flag % 2 == 1 {
-        flag / 2 % 2 == 1
-    } else {
-        false
-    }
+    flag % 2 == 1 && flag / 2 % 2 == 1
 }
 
 // Whether any place has a time window.
+#[tactic(auto, unfolding(evaluation::specs::Check::has_time_windows))]
 pub fn has_time_windows(flags: &[u8]) -> bool
     ensures { result ≡ has_time_windows flags.now }
 {
-    let mut i = 0;
-    while i < flags.len() {
-        if is_windowed(flags[i]) {
-            return true;
-        }
-        i += 1;
-    }
-    false
+    flags.iter().any(|flag| is_windowed(*flag))
 }
 
 // Whether any place, the depot included, has a window and a penalty.
+#[tactic(auto, unfolding(evaluation::specs::Check::has_soft_windows))]
 pub fn has_soft_windows(flags: &[u8]) -> bool
     ensures { result ≡ has_soft_windows flags.now }
 {
-    let mut i = 0;
-    while i < flags.len() {
-        if is_soft(flags[i]) {
-            return true;
-        }
-        i += 1;
-    }
-    false
+    flags.iter().any(|flag| is_soft(*flag))
 }
 
 // Whether a search has to make the route check at all: where no place has a window and nothing is limited, every route passes it.
 pub fn route_checks_needed(flags: &[u8], limits: RouteLimits) -> bool
     ensures { result ≡ route_checks_needed flags.now limits }
 {
-    if has_time_windows(flags) {
-        return true;
-    }
-    !limits.is_unlimited()
+    has_time_windows(flags) || !limits.is_unlimited()
 }

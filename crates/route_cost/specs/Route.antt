@@ -1,15 +1,11 @@
 -- The distance of a route, what an insertion adds to it, and the cost of a plan. Assumes nothing.
 use Rattle.std.specs.Prelude.{ℕ, ◌-◌, List, [], ◌∷◌, cond, length, get_or, eqb, ltb, Float}
-use Rattle.std.proofs.Math.Option.{Option, none, some}
 use Rattle.evaluation_laws.specs.floats.Binary64.{◌⊕◌, ◌⊖◌, ◌⊗◌, 0f, 1e-12}
 use Rattle.plan.specs.laws.Loops.{foldl}
 use Rattle.evaluation_laws.specs.models.Vehicle.{fixed_cost_in_distance}
 use Rattle.evaluation_laws.specs.models.Problem.{DistanceMatrix, Problem}
 use Rattle.evaluation_laws.specs.distance.Matrix.{get, scale}
 use Rattle.plan.specs.Plan.{Plan}
-use Rattle.route_cost.specs.declared.Insertion.{Insertion}
-use Rattle.route_cost.specs.declared.Best.{Best}
-use Rattle.route_cost.specs.declared.Best.TheVariants.{Nothing, At}
 
 -- the way that has come `dist` to prev and goes on over the stops to the depot
 unfoldable pub legs : DistanceMatrix → ℕ → Float → ℕ → List ℕ → Float
@@ -38,11 +34,6 @@ insertion_cost m depot route pos c =
     let prev = prev_stop depot route pos in
     let next = next_stop depot route pos in
     get m prev c ⊕ get m c next ⊖ get m prev next
-
--- the best insertion so far, as the code keeps it
-abbrev pub chosen : Best → Option Insertion
-chosen Nothing = none
-chosen (At x) = some x
 
 -- the closure `cost` of `minimize_routes`: "cost sums route distance + fixed in route order". The sum starts at 0.0; Rust's starts at −0.0,
 -- which no sum of a route or more shows (`cost_start`).

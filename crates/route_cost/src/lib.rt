@@ -10,9 +10,9 @@ use evaluation_laws::scale;
 
 // Of the crates below, passed on to those above.
 pub use evaluation_laws::{
-    Customer, Eval, Left, RouteEval, RouteLimits, Taken, Vehicle, Window, abs,
-    break_schedule_schedule, customer_at, evaluation_check, evaluation_route_feasible, get,
-    has_soft_windows, infinity, max, min, route_checks_needed, travel_time, trial_feasible,
+    Customer, RouteEval, RouteLimits, TimeWindow, Vehicle, abs, break_schedule_schedule,
+    customer_at, evaluation_check, evaluation_route_feasible, get, has_soft_windows, infinity, max,
+    min, route_checks_needed, travel_time, trial_feasible,
 };
 pub use plan::copy_part;
 
@@ -22,13 +22,6 @@ pub struct Insertion {
     pub cost: f64,
     pub route: usize,
     pub pos: usize,
-}
-
-// The best insertion so far, if there is one.
-#[derive(Clone, Copy)]
-pub enum Best {
-    Nothing,
-    At(Insertion),
 }
 
 // The distance of the route depot, stops, depot; 0 where there are no stops.

@@ -5,15 +5,14 @@ use native.Mathlib.Omega.{arith}
 use mathlib.Core.Path.{◌≡◌, refl, ◌∙◌}
 use mathlib.Core.Bool.{Bool, true, false}
 use mathlib.Core.List.{List}
-use mathlib.Core.Option.{Option}
+use Rattle.std.proofs.Common.{Option}
 use lib.ListN.{length, take, drop}
 use lib.Ieee.{Float}
 use Rattle.ejection_positions.specs.laws.Loops.{loop, loop_none, loop_more, loop_end}
 use Rattle.ejection_positions.specs.models.Problem.{Problem, Stops}
 use Rattle.ejection_positions.specs.plan.Plan.{route}
 use Rattle.ejection_positions.specs.ejection.declared.Ejection.{Ejection}
-use Rattle.ejection_positions.specs.ejection.declared.Best.{Best}
-use Rattle.ejection_positions.specs.ejection.Eject.{kept, failure_sum, chosen, fails_more, try_left, try_out, try_one, try_two_from, try_two}
+use Rattle.ejection_positions.specs.ejection.Eject.{kept, failure_sum, fails_more, try_left, try_out, try_one, try_two_from, try_two}
 use Rattle.ejection_positions.specs.ejection.Asked.{Counted, Sought, kept_length}
 
 -- ---- who leaves
@@ -46,24 +45,24 @@ module _ (p : Problem) (c : ℕ) (failures : List ℕ) (k : ℕ) (r : List ℕ) 
 -- ---- a loop over those who leave: f is its turn
 
 pub record Seeking (p : Problem) (failures route : List ℕ) (c : ℕ) (needed : Bool) (f : ℕ → Option Ejection → Option Ejection) (m : ℕ)
-    (work₀ work : List ℕ) (cells₀ cells : List Float) (first found : Best) (i : ℕ) : Type 0 where
+    (work₀ work : List ℕ) (cells₀ cells : List Float) (first found : Option Ejection) (i : ℕ) : Type 0 where
   pub sought : Sought p failures route c needed
   pub work_room : length route ≤ length work
   pub cells_room : 512 ≤ length cells
   pub work_same : length work ≡ length work₀
   pub cells_same : length cells ≡ length cells₀
   pub within : i ≤ m
-  pub same : chosen found ≡ loop i f (chosen first)
+  pub same : found ≡ loop i f first
 
 module _ (p : Problem) (failures route : List ℕ) (c : ℕ) (needed : Bool) (f : ℕ → Option Ejection → Option Ejection) (m : ℕ)
-    (work₀ : List ℕ) (cells₀ : List Float) (first : Best) where
+    (work₀ : List ℕ) (cells₀ : List Float) (first : Option Ejection) where
   pub seeking_start : Sought p failures route c needed → length route ≤ length work₀ → 512 ≤ length cells₀
       → Seeking p failures route c needed f m work₀ work₀ cells₀ cells₀ first first 0
   seeking_start s w l =
-      record { sought = s; work_room = w; cells_room = l; work_same = refl; cells_same = refl; within = omega arith; same = loop_none f (chosen first) }
+      record { sought = s; work_room = w; cells_room = l; work_same = refl; cells_same = refl; within = omega arith; same = loop_none f first }
 
-  module _ (work : List ℕ) (cells : List Float) (found : Best) (i : ℕ) (g : Seeking p failures route c needed f m work₀ work cells₀ cells first found i) where
-    pub seeking_more : (w : List ℕ) (x : List Float) (next : Best) → i < m → length w ≡ length work → length x ≡ length cells → chosen next ≡ f i (chosen found)
+  module _ (work : List ℕ) (cells : List Float) (found : Option Ejection) (i : ℕ) (g : Seeking p failures route c needed f m work₀ work cells₀ cells first found i) where
+    pub seeking_more : (w : List ℕ) (x : List Float) (next : Option Ejection) → i < m → length w ≡ length work → length x ≡ length cells → next ≡ f i found
         → Seeking p failures route c needed f m work₀ w cells₀ x first next (i + 1)
     seeking_more w x next h ew ex e =
         record {
@@ -73,11 +72,11 @@ module _ (p : Problem) (failures route : List ℕ) (c : ℕ) (needed : Bool) (f 
           work_same = ew ∙ g.work_same;
           cells_same = ex ∙ g.cells_same;
           within = omega arith;
-          same = loop_more f (chosen first) i (chosen found) (chosen next) g.same e;
+          same = loop_more f first i found next g.same e;
         }
 
-    pub seeking_end : m ≤ i → chosen found ≡ loop m f (chosen first)
-    seeking_end h = loop_end f (chosen first) i m (chosen found) g.same (omega (arith, g.within))
+    pub seeking_end : m ≤ i → found ≡ loop m f first
+    seeking_end h = loop_end f first i m found g.same (omega (arith, g.within))
 
 -- ---- what a loop leaves is what the definition says
 

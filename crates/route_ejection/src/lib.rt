@@ -3,13 +3,13 @@
 
 ghost use Rattle.std.specs.Prelude.{◌≡◌, ◌<◌, ◌≤◌, length};
 ghost use Rattle.ejection_positions.specs.models.Problem.{problem};
-ghost use Rattle.ejection_positions.specs.ejection.Eject.{chosen, try_out, try_one, try_two_from, try_two};
+ghost use Rattle.ejection_positions.specs.ejection.Eject.{try_out, try_one, try_two_from, try_two};
 ghost use Rattle.ejection_positions.specs.ejection.Asked.{Sought};
 
-use ejection_positions::{EjectionBest as Best, Out, fails_more, failure_sum, keep, try_left};
+use ejection_positions::{Out, fails_more, failure_sum, keep, try_left};
 
 // Of the crates below, passed on to those above.
-pub use ejection_positions::{EjectionBest, Vehicle, checked, feasible, within_capacity};
+pub use ejection_positions::{Ejection, Vehicle, checked, feasible, within_capacity};
 
 // The stops at i and j leave route k: first their failures alone, then what is kept.
 fn try_out(
@@ -21,7 +21,7 @@ fn try_out(
     i: usize,
     j: usize,
     c: usize,
-    best: Best,
+    best: Option<Ejection>,
     needed: bool,
     vehicle: Vehicle,
     demand: &[i32],
@@ -33,11 +33,11 @@ fn try_out(
     due: &[f64],
     penalty: &[f64],
     flags: &[u8],
-) -> Best
+) -> Option<Ejection>
     requires sought { Sought (problem n demand.now service.now ready.now due.now penalty.now flags.now distances.now times.now vehicle) failures.now route.now c needed }
     requires route_in_bounds { (length route.now ≤ length work.old) × (512 ≤ length cells.old) × (i ≤ j) × (j < length route.now) }
-    ensures { chosen result ≡ try_out (problem n demand.now service.now ready.now due.now penalty.now flags.now
-        distances.now times.now vehicle) c failures.now k route.now i j (chosen best) }
+    ensures { result ≡ try_out (problem n demand.now service.now ready.now due.now penalty.now flags.now
+        distances.now times.now vehicle) c failures.now k route.now i j best }
 {
     let failed = failure_sum(failures, route, i, j);
     if fails_more(failed, best) {
@@ -78,7 +78,7 @@ pub fn try_one(
     route: &[u16],
     k: usize,
     c: usize,
-    best: Best,
+    best: Option<Ejection>,
     needed: bool,
     vehicle: Vehicle,
     demand: &[i32],
@@ -90,20 +90,18 @@ pub fn try_one(
     due: &[f64],
     penalty: &[f64],
     flags: &[u8],
-) -> Best
+) -> Option<Ejection>
     requires sought { Sought (problem n demand.now service.now ready.now due.now penalty.now flags.now distances.now times.now vehicle) failures.now route.now c needed }
     requires route_in_bounds { (length route.now ≤ length work.old) × (512 ≤ length cells.old) }
-    ensures { chosen result ≡ try_one (problem n demand.now service.now ready.now due.now penalty.now flags.now
-        distances.now times.now vehicle) c failures.now k route.now (chosen best) }
+    ensures { result ≡ try_one (problem n demand.now service.now ready.now due.now penalty.now flags.now
+        distances.now times.now vehicle) c failures.now k route.now best }
 {
     let mut found = best;
-    let mut i = 0;
-    while i < route.len() {
+    for i in 0..route.len() {
         found = try_out(
             work, cells, failures, route, k, i, i, c, found, needed, vehicle, demand, n, distances,
             times, service, ready, due, penalty, flags,
         );
-        i += 1;
     }
     found
 }
@@ -117,7 +115,7 @@ fn try_two_from(
     k: usize,
     i: usize,
     c: usize,
-    best: Best,
+    best: Option<Ejection>,
     needed: bool,
     vehicle: Vehicle,
     demand: &[i32],
@@ -129,15 +127,14 @@ fn try_two_from(
     due: &[f64],
     penalty: &[f64],
     flags: &[u8],
-) -> Best
+) -> Option<Ejection>
     requires sought { Sought (problem n demand.now service.now ready.now due.now penalty.now flags.now distances.now times.now vehicle) failures.now route.now c needed }
     requires route_in_bounds { (length route.now ≤ length work.old) × (512 ≤ length cells.old) × (i < length route.now) }
-    ensures { chosen result ≡ try_two_from (problem n demand.now service.now ready.now due.now penalty.now flags.now
-        distances.now times.now vehicle) c failures.now k route.now i (chosen best) }
+    ensures { result ≡ try_two_from (problem n demand.now service.now ready.now due.now penalty.now flags.now
+        distances.now times.now vehicle) c failures.now k route.now i best }
 {
     let mut found = best;
-    let mut d = 0;
-    while d < route.len() - (i + 1) {
+    for d in 0..route.len() - (i + 1) {
         found = try_out(
             work,
             cells,
@@ -160,7 +157,6 @@ fn try_two_from(
             penalty,
             flags,
         );
-        d += 1;
     }
     found
 }
@@ -173,7 +169,7 @@ pub fn try_two(
     route: &[u16],
     k: usize,
     c: usize,
-    best: Best,
+    best: Option<Ejection>,
     needed: bool,
     vehicle: Vehicle,
     demand: &[i32],
@@ -185,20 +181,18 @@ pub fn try_two(
     due: &[f64],
     penalty: &[f64],
     flags: &[u8],
-) -> Best
+) -> Option<Ejection>
     requires sought { Sought (problem n demand.now service.now ready.now due.now penalty.now flags.now distances.now times.now vehicle) failures.now route.now c needed }
     requires route_in_bounds { (length route.now ≤ length work.old) × (512 ≤ length cells.old) }
-    ensures { chosen result ≡ try_two (problem n demand.now service.now ready.now due.now penalty.now flags.now
-        distances.now times.now vehicle) c failures.now k route.now (chosen best) }
+    ensures { result ≡ try_two (problem n demand.now service.now ready.now due.now penalty.now flags.now
+        distances.now times.now vehicle) c failures.now k route.now best }
 {
     let mut found = best;
-    let mut i = 0;
-    while i < route.len() {
+    for i in 0..route.len() {
         found = try_two_from(
             work, cells, failures, route, k, i, c, found, needed, vehicle, demand, n, distances,
             times, service, ready, due, penalty, flags,
         );
-        i += 1;
     }
     found
 }

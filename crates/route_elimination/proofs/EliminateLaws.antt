@@ -2,6 +2,7 @@
 use Prim.Native.Nat.{ℕ, ◌≤◌}
 use mathlib.Core.Path.{◌≡◌, refl, ap, subst, ◌∙◌}
 use mathlib.Core.List.{List, ◌++◌}
+use Rattle.std.proofs.Common.{Option, Some}
 use native.Mathlib.Omega.{arith}
 use lib.ListN.{length, take, drop}
 use Rattle.elimination_round.specs.models.Problem.{Problem, Admitted}
@@ -29,7 +30,7 @@ still m h =
     let b : m.draws ≡ 0 = omega (arith, h.draws_in) in
     ap (λ (k : ℕ). record { steps = k; draws = m.draws }) a ∙ ap (λ (k : ℕ). record { steps = 0; draws = k }) b
 
-module _ (p : Problem) {ls₁ s₁ : List ℕ} {count : ℕ} {ls s : List ℕ} {last : Pick}
+module _ (p : Problem) {ls₁ s₁ : List ℕ} {count : ℕ} {ls s : List ℕ} {last : Option Pick}
     (g : Trying (attempt p) 0 p.roads.size ls₁ s₁ uncounted count ls s uncounted last) where
   pub trying_eliminating : (work : List ℕ) → Admitted p → 511 ≤ length work → Eliminating p (take count ls) s work
   trying_eliminating work a w = record {
@@ -44,9 +45,9 @@ module _ (p : Problem) {ls₁ s₁ : List ℕ} {count : ℕ} {ls s : List ℕ} {
   module _ (z : Next) (Y S : List ℕ)
       (e : tried_next (attempt p) (split (take count ls) s) (take count ls) uncounted z (split (but_last Y) S) ≡ try_each (attempt p) (split (take count ls) s) (following (take count ls) last) uncounted)
       (h : NextLeaves 0 p.roads.size (take count ls) s last uncounted z Y S) (m : Counts) where
-    pub after_refused : (pick : Pick) → z ≡ Kept pick m → Trying (attempt p) 0 p.roads.size ls₁ s₁ uncounted count (Y ++ drop count ls) S uncounted pick
+    pub after_refused : (pick : Pick) → z ≡ Kept pick m → Trying (attempt p) 0 p.roads.size ls₁ s₁ uncounted count (Y ++ drop count ls) S uncounted (Some pick)
     after_refused pick f =
-        subst (λ (m : Counts). Trying (attempt p) 0 p.roads.size ls₁ s₁ uncounted count (Y ++ drop count ls) S m pick)
+        subst (λ (m : Counts). Trying (attempt p) 0 p.roads.size ls₁ s₁ uncounted count (Y ++ drop count ls) S m (Some pick))
         (still m (refused _ _ _ g z Y S e h pick m f).counted) (after_kept _ _ _ g z Y S e h pick m f)
 
     pub after_gone : length Y ≡ length (take count ls) → z ≡ Took m → (ls₀ s₀ : List ℕ) → length ls₁ ≡ length ls₀ → length s₁ ≡ length s₀ → length S ≡ length s

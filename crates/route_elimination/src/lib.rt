@@ -43,7 +43,7 @@ pub fn eliminate_routes(
     let floor = gain_floor(distances);
     'search: loop {
         let count = drop_empty(lengths);
-        let mut last = Pick::Nothing;
+        let mut last: Option<Pick> = None;
         loop {
             let next = try_next(
                 &mut lengths[..count],
@@ -69,7 +69,7 @@ pub fn eliminate_routes(
                     return count;
                 }
                 Next::Kept(pick, _) => {
-                    last = pick;
+                    last = Some(pick);
                 }
                 Next::Accepted(_) => {
                     continue 'search;

@@ -8,15 +8,14 @@ ghost use Rattle.insertion.specs.models.Customer.{customers};
 ghost use Rattle.insertion.specs.models.RouteLimits.{limits_of};
 ghost use Rattle.insertion.specs.models.Problem.{matrix, problem, Fit, Stops, Admitted};
 ghost use Rattle.insertion.specs.evaluation.Check.{route_checks_needed};
-ghost use Rattle.insertion.specs.route_cost.Route.{chosen};
 ghost use Rattle.insertion.specs.route_times.Prepared.{held};
 ghost use Rattle.insertion.specs.Cheapest.{try_route};
 ghost use Rattle.insertion.specs.Pass.{pass_position};
 
-use insertion::{RouteCostBest as Best, has_room, prepare, try_position};
+use insertion::{has_room, prepare, try_position};
 
 // Of the crates below, passed on to those above.
-pub use insertion::{Counts, RouteCostBest, Vehicle, put_in};
+pub use insertion::{Counts, Insertion, Vehicle, put_in};
 
 // Every position of route k, which has room for c, its end too.
 fn try_positions(
@@ -24,7 +23,7 @@ fn try_positions(
     cells: &[f64],
     c: usize,
     k: usize,
-    best: Best,
+    best: Option<Insertion>,
     needed: bool,
     vehicle: Vehicle,
     n: usize,
@@ -35,22 +34,20 @@ fn try_positions(
     due: &[f64],
     penalty: &[f64],
     flags: &[u8],
-) -> Best
+) -> Option<Insertion>
     requires fit { Fit (customers service.now ready.now due.now penalty.now flags.now) (matrix n distances.now times.now) }
     requires depot_id_bound { (vehicle.depot_id < n) × (c < n) × Stops n route.now × (512 ≤ length cells.now)
         × (needed ≡ route_checks_needed flags.now (limits_of vehicle)) }
-    ensures { chosen result ≡ loop (suc (length route.now)) (pass_position (problem n [] service.now ready.now due.now penalty.now flags.now
+    ensures { result ≡ loop (suc (length route.now)) (pass_position (problem n [] service.now ready.now due.now penalty.now flags.now
         distances.now times.now vehicle) c k route.now
-        (held (length route.now) cells.now)) (chosen best) }
+        (held (length route.now) cells.now)) best }
 {
     let mut found = best;
-    let mut pos = 0;
-    while pos <= route.len() {
+    for pos in 0..route.len() + 1 {
         found = try_position(
             route, cells, pos, c, k, found, needed, vehicle, n, distances, times, service, ready,
             due, penalty, flags,
         );
-        pos += 1;
     }
     found
 }
@@ -61,7 +58,7 @@ pub fn try_route(
     route: &[u16],
     c: usize,
     k: usize,
-    best: Best,
+    best: Option<Insertion>,
     needed: bool,
     vehicle: Vehicle,
     demand: &[i32],
@@ -73,24 +70,25 @@ pub fn try_route(
     due: &[f64],
     penalty: &[f64],
     flags: &[u8],
-) -> Best
+) -> Option<Insertion>
     requires admitted { Admitted (problem n demand.now service.now ready.now due.now penalty.now flags.now distances.now times.now vehicle) }
     requires c_lt_n { (c < n) × Stops n route.now × (512 ≤ length cells.old) × (needed ≡ route_checks_needed flags.now (limits_of vehicle)) }
-    ensures { chosen result ≡ try_route (problem n demand.now service.now ready.now due.now penalty.now flags.now
-        distances.now times.now vehicle) c k route.now (chosen best) }
+    ensures { result ≡ try_route (problem n demand.now service.now ready.now due.now penalty.now flags.now
+        distances.now times.now vehicle) c k route.now best }
 {
     let room = has_room(route, c, demand, vehicle);
-    if room {
-        let in_time = prepare(
-            cells, route, needed, vehicle, n, distances, times, service, ready, due, penalty, flags,
-        );
-        if in_time {
-            return try_positions(
-                route, cells, c, k, best, needed, vehicle, n, distances, times, service, ready,
-                due, penalty, flags,
-            );
-        }
+    if !room {
         return best;
     }
-    best
+    let in_time = prepare(
+        cells, route, needed, vehicle, n, distances, times, service, ready, due, penalty, flags,
+    );
+    if in_time {
+        try_positions(
+            route, cells, c, k, best, needed, vehicle, n, distances, times, service, ready, due,
+            penalty, flags,
+        )
+    } else {
+        best
+    }
 }

@@ -7,10 +7,10 @@ ghost use Rattle.route_load.specs.Feasible.{demand_at, load, fits, has_room};
 
 // Of the crates below, passed on to those above.
 pub use route_cost::{
-    Best as RouteCostBest, Customer, Eval, Insertion, Left, RouteEval, RouteLimits, Taken, Vehicle,
-    Window, abs, break_schedule_schedule, customer_at, evaluation_check, evaluation_route_feasible,
-    gain_floor as route_cost_gain_floor, get, infinity, max, min, route_checks_needed,
-    route_distance as route_cost_route_distance, travel_time, trial_feasible,
+    Customer, Insertion, RouteEval, RouteLimits, TimeWindow, Vehicle, abs, break_schedule_schedule,
+    customer_at, evaluation_check, evaluation_route_feasible, gain_floor as route_cost_gain_floor,
+    get, infinity, max, min, route_checks_needed, route_distance as route_cost_route_distance,
+    travel_time, trial_feasible,
 };
 
 // The sum of the demands of a route.
@@ -19,11 +19,8 @@ pub fn load(route: &[u16], demand: &[i32]) -> i32
     ensures { result ≡ load demand.now route.now }
 {
     let mut sum = 0;
-    let mut i = 0;
-    while i < route.len() {
-        let c = route[i] as usize;
-        sum = sum + demand[c];
-        i += 1;
+    for c in route {
+        sum += demand[*c as usize];
     }
     sum
 }

@@ -4,6 +4,7 @@
 -- without it, what is left are exactly the routes after it. Assumes nothing.
 use Prim.Native.Nat.{ℕ, zero, suc, ◌≤◌, ◌<◌}
 use Rattle.std.specs.Prelude.{◌≡◌, Bool, not, ◌&&◌, List, [], ◌∷◌, length}
+use Rattle.std.specs.Prelude.{Option, None, Some}
 use Rattle.std.proofs.Math.Path.{refl, subst}
 use Rattle.std.proofs.Common.{ap, sym, ◌∙◌, true≢false, le_refl, not-suc-le-zero, arith}
 use Rattle.std.proofs.Math.Bool.{true, false, cond}
@@ -16,13 +17,12 @@ use Rattle.plan.specs.laws.Keeps.{keep, keep_all, keep_none, keep_passes, keep_b
 use Rattle.plan.specs.laws.Loops.{loop_rule, up_to}
 use Rattle.plan.specs.laws.Sorts.{range, least_at, smallest, sort_by, length_sort_by, sort_by_cons, least_key, Least, get_range, length_range, all_range, rising_range, rising_order, rising_erase}
 use Rattle.route_order.specs.declared.Pick.{Pick}
-use Rattle.route_order.specs.declared.Pick.TheVariants.{Nothing, At}
-use Rattle.route_order.specs.Order.{by_length, order, is_after, shorter, considered, next_pick, following, picked_then, repeated}
+use Rattle.route_order.specs.Order.{by_length, order, at, is_after, shorter, considered, next_pick, following, picked_then, repeated}
 
 -- ---- the test by length and index
 
 module _ {X : Type 0} (i l k n : ℕ) where
-  after_cases : is_after (At i l) k n ≡ true → (l < n → X) → (l ≡ n → i < k → X) → X
+  after_cases : is_after (at i l) k n ≡ true → (l < n → X) → (l ≡ n → i < k → X) → X
   unfolding is_after
   after_cases e f g = go (eqb l n) refl e
     where
@@ -31,11 +31,11 @@ module _ {X : Type 0} (i l k n : ℕ) where
       go false q e = f (ltb-true l n e)
 
 module _ (i l k n : ℕ) where
-  after_longer : l < n → is_after (At i l) k n ≡ true
+  after_longer : l < n → is_after (at i l) k n ≡ true
   unfolding is_after
   after_longer h = rw (ne_eqb l n (λ e. omega arith)) (lt-ltb l n h)
 
-  after_later : l ≡ n → i < k → is_after (At i l) k n ≡ true
+  after_later : l ≡ n → i < k → is_after (at i l) k n ≡ true
   unfolding is_after
   after_later e h = rw (eq-eqb l n e) (lt-ltb i k h)
 
@@ -47,17 +47,19 @@ strict a b h d = go (ltb a b) refl
     go false e = absurd (d (omega (arith, ltb-false a b e)))
 
 -- what comes after a route that comes after the last pick comes after the last pick
-after_after : (last : Pick) (k n j m : ℕ) → is_after last k n ≡ true → is_after (At k n) j m ≡ true → is_after last j m ≡ true
+after_after : (last : Option Pick) (k n j m : ℕ) → is_after last k n ≡ true → is_after (at k n) j m ≡ true → is_after last j m ≡ true
 unfolding is_after
-after_after Nothing k n j m e f = refl
-after_after (At i l) k n j m e f =
+after_after None k n j m e f = refl
+after_after (Some p) k n j m e f =
+    let i = p.route in
+    let l = p.length in
     after_cases i l k n e
     (λ h. after_cases k n j m f (λ g. after_longer i l j m (omega arith)) (λ q g. after_longer i l j m (omega arith)))
     (λ p h. after_cases k n j m f (λ g. after_longer i l j m (omega arith)) (λ q g. after_later i l j m (omega arith) (omega arith)))
 
 -- ---- the next pick is the first smallest
 
-module _ (ls : List ℕ) (last : Pick) where
+module _ (ls : List ℕ) (last : Option Pick) where
   abbrev passes : ℕ → Bool
   passes k = is_after last k (get_or ls k 0)
 
@@ -68,25 +70,25 @@ module _ (ls : List ℕ) (last : Pick) where
     pub least : (j : ℕ) → j < m → passes j ≡ true → get_or ls k 0 ≤ get_or ls j 0
     pub first : (j : ℕ) → j < m → passes j ≡ true → get_or ls j 0 ≡ get_or ls k 0 → k ≤ j
 
-  abbrev Found : ℕ → Pick → Type 0
-  Found m Nothing = (j : ℕ) → j < m → passes j ≡ false
-  Found m (At k n) = (n ≡ get_or ls k 0) × First m k
+  abbrev Found : ℕ → Option Pick → Type 0
+  Found m None = (j : ℕ) → j < m → passes j ≡ false
+  Found m (Some p) = (p.length ≡ get_or ls p.route 0) × First m p.route
 
-  passed_over : (m : ℕ) (best : Pick) → passes m ≡ false → Found m best → Found (suc m) best
-  passed_over m Nothing e f = λ j h. up_to m j h (λ g. f j g) (λ q. rw q e)
-  passed_over m (At k n) e (q, f) = (
+  passed_over : (m : ℕ) (best : Option Pick) → passes m ≡ false → Found m best → Found (suc m) best
+  passed_over m None e f = λ j h. up_to m j h (λ g. f j g) (λ q. rw q e)
+  passed_over m (Some p) e (q, f) = (
     q,
     record {
       inside = omega (arith, f.inside);
       after = f.after;
-      least = λ j h t. up_to m j h (λ g. f.least j g t) (λ p. absurd (true≢false (sym t ∙ rw p e)));
-      first = λ j h t s. up_to m j h (λ g. f.first j g t s) (λ p. absurd (true≢false (sym t ∙ rw p e)));
+      least = λ j h t. up_to m j h (λ g. f.least j g t) (λ g. absurd (true≢false (sym t ∙ rw g e)));
+      first = λ j h t s. up_to m j h (λ g. f.first j g t s) (λ g. absurd (true≢false (sym t ∙ rw g e)));
     },
   )
 
-  looked_at : (m : ℕ) (best : Pick) → passes m ≡ true → Found m best → Found (suc m) (shorter best m (get_or ls m 0))
+  looked_at : (m : ℕ) (best : Option Pick) → passes m ≡ true → Found m best → Found (suc m) (shorter best m (get_or ls m 0))
   unfolding shorter
-  looked_at m Nothing e f = (
+  looked_at m None e f = (
     refl,
     record {
       inside = omega arith;
@@ -95,11 +97,11 @@ module _ (ls : List ℕ) (last : Pick) where
       first = λ j h t s. up_to m j h (λ g. absurd (true≢false (sym t ∙ f j g))) (λ p. omega arith);
     },
   )
-  looked_at m (At k n) e (q, f) = go (ltb (get_or ls m 0) n) refl
+  looked_at m (Some p) e (q, f) = go (ltb (get_or ls m 0) p.length) refl
     where
-      go : (t : Bool) → ltb (get_or ls m 0) n ≡ t → Found (suc m) (cond t (At m (get_or ls m 0)) (At k n))
-      go true p =
-          let less = ltb-true (get_or ls m 0) n p in (
+      go : (t : Bool) → ltb (get_or ls m 0) p.length ≡ t → Found (suc m) (cond t (at m (get_or ls m 0)) (Some p))
+      go true h =
+          let less = ltb-true (get_or ls m 0) p.length h in (
             refl,
             record {
               inside = omega arith;
@@ -108,8 +110,8 @@ module _ (ls : List ℕ) (last : Pick) where
               first = λ j h t s. up_to m j h (λ g. absurd (omega (arith, f.least j g t))) (λ r. omega arith);
             },
           )
-      go false p =
-          let more = ltb-false (get_or ls m 0) n p in (
+      go false h =
+          let more = ltb-false (get_or ls m 0) p.length h in (
             q,
             record {
               inside = omega (arith, f.inside);
@@ -123,14 +125,14 @@ module _ (ls : List ℕ) (last : Pick) where
   unfolding next_pick considered
   found = loop_rule (λ m best. Found m best) (length ls) (λ k best. considered last best k (get_or ls k 0)) (λ m best h f. turn m best f (passes m) refl) (λ j h. absurd (not-suc-le-zero h))
     where
-      turn : (m : ℕ) (best : Pick) → Found m best → (t : Bool) → passes m ≡ t → Found (suc m) (cond t (shorter best m (get_or ls m 0)) best)
+      turn : (m : ℕ) (best : Option Pick) → Found m best → (t : Bool) → passes m ≡ t → Found (suc m) (cond t (shorter best m (get_or ls m 0)) best)
       turn m best f true e = looked_at m best e f
       turn m best f false e = passed_over m best e f
 
   -- where there is a next pick, it is a route with its length
-  pub next_pick_inside : (k n : ℕ) → next_pick ls last ≡ At k n → (k < length ls) × (n ≡ get_or ls k 0)
+  pub next_pick_inside : (k n : ℕ) → next_pick ls last ≡ at k n → (k < length ls) × (n ≡ get_or ls k 0)
   next_pick_inside k n e =
-      let f = subst (λ (p : Pick). Found (length ls) p) e found in
+      let f = subst (λ (p : Option Pick). Found (length ls) p) e found in
       (f.1.inside, f.0)
 
   -- the routes after the last pick, by index
@@ -145,7 +147,7 @@ module _ (ls : List ℕ) (last : Pick) where
 
   module _ (k : ℕ) (f : First (length ls) k) where
     -- once k is picked, what comes after it is what came after the last pick but k
-    same : (j : ℕ) → j < length ls → (passes j && not (eqb j k)) ≡ is_after (At k (get_or ls k 0)) j (get_or ls j 0)
+    same : (j : ℕ) → j < length ls → (passes j && not (eqb j k)) ≡ is_after (at k (get_or ls k 0)) j (get_or ls j 0)
     unfolding is_after
     same j h = go (passes j) refl
       where
@@ -165,13 +167,13 @@ module _ (ls : List ℕ) (last : Pick) where
             let more : n < m = strict n m (f.least j h p) (eqb-false n m e) in
             rw (lt-ltb n m more, ne_eqb j k (λ q. eqb-false n m e (ap (λ (x : ℕ). get_or ls x 0) (sym q))))
 
-        none : (t : Bool) → is_after (At k n) j m ≡ t → passes j ≡ false → false ≡ t
+        none : (t : Bool) → is_after (at k n) j m ≡ t → passes j ≡ false → false ≡ t
         none true e p = absurd (true≢false (sym (after_after last k n j m f.after e) ∙ p))
         none false e p = refl
 
-        go : (t : Bool) → passes j ≡ t → (t && not (eqb j k)) ≡ is_after (At k n) j m
+        go : (t : Bool) → passes j ≡ t → (t && not (eqb j k)) ≡ is_after (at k n) j m
         go true p = passing (eqb n m) refl p
-        go false p = none (is_after (At k n) j m) refl p
+        go false p = none (is_after (at k n) j m) refl p
 
     some_left : 0 < length left
     some_left = each {P = λ _. 0 < length left} k f.inside f.after (all_of left 0 (λ i h. omega arith))
@@ -206,13 +208,13 @@ module _ (ls : List ℕ) (last : Pick) where
         omega (arith, o.1 e, f.first h inside after (sym e))
 
     -- without it, what is left are the routes after it
-    rest : erase first_left left ≡ keep (λ j. is_after (At k (get_or ls k 0)) j (get_or ls j 0)) (range 0 (length ls))
+    rest : erase first_left left ≡ keep (λ j. is_after (at k (get_or ls k 0)) j (get_or ls j 0)) (range 0 (length ls))
     rest =
         rising_erase left first_left (rising_range passes 0 (length ls)) is_least.inside
         ∙ rw head (keep_both passes (λ j. not (eqb j k)) (range 0 (length ls)))
-        ∙ keep_same (λ j. passes j && not (eqb j k)) (λ j. is_after (At k (get_or ls k 0)) j (get_or ls j 0)) (all_map (λ j h. same j h) (all_range 0 (length ls) (length ls) (omega arith)))
+        ∙ keep_same (λ j. passes j && not (eqb j k)) (λ j. is_after (at k (get_or ls k 0)) j (get_or ls j 0)) (all_map (λ j h. same j h) (all_range 0 (length ls) (length ls) (omega arith)))
 
-    picked : following ls last ≡ k ∷ following ls (At k (get_or ls k 0))
+    picked : following ls last ≡ k ∷ following ls (at k (get_or ls k 0))
     unfolding following first_left
     picked =
         sort_by_cons (λ i j. ltb (get_or ls i 0) (get_or ls j 0)) 0 left some_left
@@ -220,24 +222,24 @@ module _ (ls : List ℕ) (last : Pick) where
 
   -- ---- what follows the last pick
 
-  pub following_at : (k n : ℕ) → next_pick ls last ≡ At k n → following ls last ≡ k ∷ following ls (At k n)
+  pub following_at : (k n : ℕ) → next_pick ls last ≡ at k n → following ls last ≡ k ∷ following ls (at k n)
   following_at k n e =
-      let f = subst (λ (p : Pick). Found (length ls) p) e found in
+      let f = subst (λ (p : Option Pick). Found (length ls) p) e found in
       rw f.0 (picked k f.1)
 
-  pub following_nothing : next_pick ls last ≡ Nothing → following ls last ≡ []
+  pub following_nothing : next_pick ls last ≡ None → following ls last ≡ []
   unfolding following sort_by smallest
   following_nothing e =
-      let f = subst (λ (p : Pick). Found (length ls) p) e found in
+      let f = subst (λ (p : Option Pick). Found (length ls) p) e found in
       rw (keep_none passes (all_map (λ j h. f j h) (all_range 0 (length ls) (length ls) (omega arith))))
 
-pub following_all : (ls : List ℕ) → following ls Nothing ≡ order ls
+pub following_all : (ls : List ℕ) → following ls None ≡ order ls
 unfolding following is_after
 following_all ls = ap (λ (l : List ℕ). by_length ls l) (keep_all (λ k. true) (all_map (λ k h. refl) (all_range 0 (length ls) (length ls) (omega arith))))
 
 -- ---- the picks one after the other are the order
 
-repeated_following : (m : ℕ) (ls : List ℕ) (last : Pick) → length (following ls last) ≤ m → repeated m ls last ≡ following ls last
+repeated_following : (m : ℕ) (ls : List ℕ) (last : Option Pick) → length (following ls last) ≤ m → repeated m ls last ≡ following ls last
 unfolding repeated picked_then
 repeated_following zero ls last h = empty (following ls last) h
   where
@@ -246,14 +248,14 @@ repeated_following zero ls last h = empty (following ls last) h
     empty (x ∷ xs) h = absurd (not-suc-le-zero h)
 repeated_following (suc m) ls last h = go (next_pick ls last) refl (λ p g. repeated_following m ls p g)
   where
-    go : (p : Pick) → next_pick ls last ≡ p → ((q : Pick) → length (following ls q) ≤ m → repeated m ls q ≡ following ls q)
+    go : (p : Option Pick) → next_pick ls last ≡ p → ((q : Option Pick) → length (following ls q) ≤ m → repeated m ls q ≡ following ls q)
         → picked_then (λ q. repeated m ls q) p ≡ following ls last
-    go Nothing e rest = sym (following_nothing ls last e)
-    go (At k n) e rest =
-        let f = following_at ls last k n e in
-        rw (rest (At k n) (omega (arith, ap length f))) (sym f)
+    go None e rest = sym (following_nothing ls last e)
+    go (Some p) e rest =
+        let f = following_at ls last p.route p.length e in
+        rw (rest (Some p) (omega (arith, ap length f))) (sym f)
 
-pub repeated_picks : (ls : List ℕ) → repeated (length ls) ls Nothing ≡ order ls
+pub repeated_picks : (ls : List ℕ) → repeated (length ls) ls None ≡ order ls
 repeated_picks ls =
     let n : length (order ls) ≡ length ls = length_sort_by (λ i j. ltb (get_or ls i 0) (get_or ls j 0)) 0 (range 0 (length ls)) ∙ length_range 0 (length ls) in
-    repeated_following (length ls) ls Nothing (omega (arith, ap length (following_all ls))) ∙ following_all ls
+    repeated_following (length ls) ls None (omega (arith, ap length (following_all ls))) ∙ following_all ls

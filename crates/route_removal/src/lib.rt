@@ -40,12 +40,10 @@ pub fn drop_empty(lengths: &mut [u16]) -> usize
     ensures count { result ≡ length (drop_zero lengths.old) }
 {
     let mut r = 0;
-    let mut k = 0;
-    while k < lengths.len() {
+    for k in 0..lengths.len() {
         let n = lengths[k];
         lengths[r] = n;
         r += counted(n);
-        k += 1;
     }
     route_exchange::clear(&mut lengths[r..]);
     r

@@ -1,10 +1,10 @@
 -- Laws of specs/Prepared, each from the facts that the code has where it needs it. Assumes nothing.
+use Rattle.std.specs.Prelude.{Option, None, Some}
 use Prim.Native.Nat.{ℕ, ◌≤◌}
 use native.Mathlib.Omega.{arith}
 use mathlib.Core.Path.{◌≡◌, refl, sym, ap, ◌∙◌}
 use mathlib.Core.Bool.{Bool, true, false, true≢false}
 use mathlib.Core.List.{List, ◌++◌}
-use mathlib.Core.Option.{Option, none, some}
 use lib.ListN.{length, take, drop, length-take, length-drop}
 use lib.Seq.{take-append-le, drop_at, take-take, length-take-le}
 use lib.Ieee.{Float}
@@ -41,10 +41,10 @@ pub ruleset part_laws = (first_room, next_room, first_kept, next_kept, first_sta
 -- ---- both
 
 module _ (d : Option (List Float)) (l : List Float) (m : ℕ) (first : List Float) (v : Bool) (ed : d ≡ told v (take m first)) where
-  pub times_kept : (cells : List Float) → v ≡ true → take m (drop 256 cells) ≡ l → take m cells ≡ take m first → with_latest l d ≡ some (held m cells)
+  pub times_kept : (cells : List Float) → v ≡ true → take m (drop 256 cells) ≡ l → take m cells ≡ take m first → with_latest l d ≡ Some (held m cells)
   times_kept cells t el ef = rw (ed, t, el, ef)
 
-  pub times_missed : v ≡ false → with_latest l d ≡ none
+  pub times_missed : v ≡ false → with_latest l d ≡ None
   times_missed f = rw (ed, f)
 
 pub ruleset times_laws = (times_kept, times_missed)

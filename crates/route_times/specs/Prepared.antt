@@ -4,7 +4,7 @@ use Rattle.std.proofs.Math.Path.{refl, ap}
 use Rattle.std.proofs.Common.{sym, ◌∙◌, true≢false}
 use Rattle.std.proofs.Math.Bool.{true, false}
 use mathlib.Core.List.{List, []}
-use Rattle.std.proofs.Math.Option.{Option, none, some}
+use Rattle.std.specs.Prelude.{Option, None, Some}
 use Rattle.walked_times.specs.models.declared.vehicle.Vehicle.{Vehicle}
 use Rattle.walked_times.specs.models.Problem.{Problem, problem}
 use Rattle.walked_times.specs.route_load.Feasible.{constrained}
@@ -24,14 +24,14 @@ pub record Prepared (p : Problem) (route : List ℕ) (r : Bool) (cells : List Fl
 
 -- a route that is passed over; and one that is not: what reads the times only where the check is needed may read the cells
 module _ (p : Problem) (route : List ℕ) (r : Bool) (cells : List Float) (h : Prepared p route r cells) where
-  pub prepared_missed : r ≡ false → times p route ≡ none
+  pub prepared_missed : r ≡ false → times p route ≡ None
   prepared_missed e = go (constrained p) refl
     where
-      go : (b : Bool) → constrained p ≡ b → times p route ≡ none
+      go : (b : Bool) → constrained p ≡ b → times p route ≡ None
       go true k = h.needed k ∙ ap (λ (v : Bool). told v (held (length route) cells)) e
       go false k = absurd (true≢false (sym (h.unneeded k) ∙ e))
 
-  pub prepared_read : {A : Type 0} (f : Option Times → A) (g : Times → A) → ((t : Times) → f (some t) ≡ g t) → (constrained p ≡ false → (t u : Times) → g t ≡ g u)
+  pub prepared_read : {A : Type 0} (f : Option Times → A) (g : Times → A) → ((t : Times) → f (Some t) ≡ g t) → (constrained p ≡ false → (t u : Times) → g t ≡ g u)
       → r ≡ true → f (times p route) ≡ g (held (length route) cells)
   unfolding times
   prepared_read f g same unread e = go (constrained p) refl

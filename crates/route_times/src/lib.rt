@@ -15,9 +15,9 @@ use walked_times::{departures, latest_arrivals};
 
 // Of the crates below, passed on to those above.
 pub use walked_times::{
-    Counts, Insertion, LocalSearchNext, Pick, Reduction, RouteCostBest, Vehicle, checked,
-    constrained, copy_part, feasible, has_room, insertion_cost, may_fit, next_pick, offset, put_in,
-    rounds, take_out, trial_ok, within_capacity,
+    Counts, Insertion, LocalSearchNext, Pick, Reduction, Vehicle, checked, constrained, copy_part,
+    feasible, has_room, insertion_cost, may_fit, next_pick, offset, put_in, rounds, take_out,
+    trial_ok, within_capacity,
 };
 
 // The departures go to the first 256 work cells; false where one of the stops is reached after its window closes.

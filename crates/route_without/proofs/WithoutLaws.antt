@@ -3,6 +3,7 @@ use Prim.Native.Nat.{ℕ, zero, suc, ◌+◌, ◌-◌, ◌≤◌, ◌<◌}
 use mathlib.Core.Path.{◌≡◌, ap, ◌∙◌}
 use mathlib.Core.Bool.{Bool}
 use mathlib.Core.List.{List, [], ◌∷◌, ◌++◌, reverse}
+use Rattle.std.proofs.Common.{Result}
 use native.Mathlib.Omega.{arith}
 use lib.ListN.{length, take, drop, get_or, replicate, length-append, length-reverse, length-replicate}
 use lib.Seq.{take_at, drop_at}
@@ -17,7 +18,6 @@ use Rattle.pool_attempt.specs.local_search.declared.rounds.Counts.{Counts}
 use Rattle.pool_attempt.specs.route_cost.Route.{cost}
 use Rattle.pool_attempt.specs.local_search.Search.{EndsWith0, but_last}
 use Rattle.pool_attempt.specs.ejection_made.Made.{stack}
-use Rattle.pool_attempt.specs.declared.Attempted.{Attempted}
 use Rattle.pool_attempt.specs.ejection_pool.Pool.{Allowance, run_pool, empty_into}
 use Rattle.pool_attempt.specs.pool_cost.Attempt.{attempt}
 use Rattle.pool_attempt.specs.ejection_pool.Running.{Running, state}
@@ -85,7 +85,7 @@ module _ {p : Problem} {tape : List ℕ} {needed : Bool} {limit : ℕ} {ls s wor
     pub ends_with_0 : Lent X Y → EndsWith0 (X ++ drop (m - 0) L) Y
     ends_with_0 l = record { zero_last = rw but_0 (ap (λ (z : List ℕ). X ++ z) behind); lent = rw but_0 l }
 
-    pub without_tried : (given : Allowance) (before : Float) (a : Attempted) → before ≡ cost p (split ls s) → given.limit ≡ limit
+    pub without_tried : (given : Allowance) (before : Float) (a : Result Counts Counts) → before ≡ cost p (split ls s) → given.limit ≡ limit
         → tried a (split X Y) ≡ judged p before (run_pool given p limit (state (take (m - 0) L) S pool start (replicate p.roads.size 1) counted))
         → tried a (split (but_last (X ++ drop (m - 0) L)) Y) ≡ attempt given p (split ls s) r counted
     unfolding attempt empty_into

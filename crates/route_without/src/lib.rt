@@ -16,9 +16,9 @@ use route_pool::to_pool;
 use route_removal::erase_route;
 
 // Of the crates below, passed on to those above.
-pub use pool_attempt::{Attempted, Counts, Vehicle};
+pub use pool_attempt::{Counts, Vehicle};
 
-// Route r is taken out of the plan and emptied into the others. The work cells are free.
+// Route r is taken out of the plan and emptied into the others. The work cells are free. An error is a plan that is to be kept.
 pub fn try_without(
     lengths: &mut [u16],
     stops: &mut [u16],
@@ -41,7 +41,7 @@ pub fn try_without(
     due: &[f64],
     penalty: &[f64],
     flags: &[u8],
-) -> Attempted
+) -> Result<Counts, Counts>
     requires attempting { Attempting (problem n demand.now service.now ready.now due.now penalty.now flags.now distances.now times.now vehicle) tape.now needed limit
         lengths.old stops.old work.old cells.old counted }
     requires r_in_bounds { (r < length lengths.old) × (before ≡ cost (problem n demand.now service.now ready.now due.now penalty.now flags.now distances.now times.now vehicle) (split lengths.old stops.old)) }

@@ -7,13 +7,13 @@ ghost use Rattle.route_drive.specs.models.Problem.{matrix, Fit, Stops};
 ghost use Rattle.route_drive.specs.evaluation.Eval.{route_eval, effective_cost};
 
 use route_drive::{
-    Eval, Rest, VehicleBreak, Walk, Walked, break_schedule_schedule as schedule, drive_all, home,
-    infinity, limited,
+    RouteEval, VehicleBreak, Walk, break_schedule_schedule as schedule, drive_all, home, infinity,
+    limited,
 };
 
 // Of the crates below, passed on to those above.
 pub use route_drive::{
-    Penalty, RouteLimits, Vehicle, Window, has_soft_windows, is_finite, largest, max, penalty_at,
+    RouteLimits, TimeWindow, Vehicle, has_soft_windows, is_finite, largest, max, penalty_at,
     total_less, window_at,
 };
 
@@ -30,15 +30,14 @@ pub fn route_eval(
     due: &[f64],
     penalty: &[f64],
     flags: &[u8],
-) -> Eval
+) -> Option<RouteEval>
     requires fit { Fit (customers service.now ready.now due.now penalty.now flags.now) (matrix n distances.now times.now) }
     requires depot_lt_n { (depot < n) × Stops n route.now }
     ensures { result ≡ route_eval (customers service.now ready.now due.now penalty.now flags.now)
         (matrix n distances.now times.now) depot limits route.now }
 {
-    let rest = limits.rest;
-    let Rest::Break(earliest, latest, duration) = rest else {
-        let walked = drive_all(
+    let Some(rest) = limits.rest else {
+        let walk = drive_all(
             Walk::new(depot),
             route,
             n,
@@ -49,24 +48,11 @@ pub fn route_eval(
             due,
             penalty,
             flags,
-        );
-        let Walked::At(walk) = walked else {
-            return Eval::Infeasible;
-        };
+        )?;
         return home(walk, depot, limits, n, distances, times);
     };
     let e = schedule(
-        route,
-        depot,
-        VehicleBreak::new(earliest, latest, duration),
-        n,
-        distances,
-        times,
-        service,
-        ready,
-        due,
-        penalty,
-        flags,
+        route, depot, rest, n, distances, times, service, ready, due, penalty, flags,
     );
     limited(e, limits)
 }
@@ -90,11 +76,10 @@ pub fn effective_cost(
     ensures { result ≡ effective_cost (customers service.now ready.now due.now penalty.now flags.now)
         (matrix n distances.now times.now) depot limits route.now }
 {
-    let e = route_eval(
+    match route_eval(
         route, depot, limits, n, distances, times, service, ready, due, penalty, flags,
-    );
-    let Eval::Feasible(x) = e else {
-        return infinity();
-    };
-    x.priced_distance()
+    ) {
+        Some(e) => e.priced_distance(),
+        None => infinity(),
+    }
 }

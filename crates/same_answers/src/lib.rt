@@ -12,31 +12,13 @@ pub use stored_answers::{Stored, of_number, of_replied, of_window};
 pub fn same_stored(x: Stored, y: Stored) -> bool
     ensures { result ≡ same_stored x y }
 {
-    if x.tag != y.tag {
-        return false;
-    }
-    if x.a != y.a {
-        return false;
-    }
-    if x.b != y.b {
-        return false;
-    }
-    if x.c != y.c {
-        return false;
-    }
-    same_rest(x, y)
+    x.tag == y.tag && x.a == y.a && x.b == y.b && x.c == y.c && same_rest(x, y)
 }
 
 fn same_rest(x: Stored, y: Stored) -> bool
     ensures { result ≡ same_rest x y }
 {
-    if x.d != y.d {
-        return false;
-    }
-    if x.e != y.e {
-        return false;
-    }
-    x.f == y.f
+    x.d == y.d && x.e == y.e && x.f == y.f
 }
 
 // Whether two slices of a plan have the same cells.
@@ -46,12 +28,10 @@ pub fn same_cells(xs: &[u16], ys: &[u16]) -> bool
     if xs.len() != ys.len() {
         return false;
     }
-    let mut i = 0;
-    while i < xs.len() {
+    for i in 0..xs.len() {
         if xs[i] != ys[i] {
             return false;
         }
-        i += 1;
     }
     true
 }
@@ -60,8 +40,5 @@ pub fn same_cells(xs: &[u16], ys: &[u16]) -> bool
 pub fn same_plan(lengths: &[u16], stops: &[u16], lengths_after: &[u16], stops_after: &[u16]) -> bool
     ensures { result ≡ same_plan (slices_of lengths.now stops.now) lengths_after.now stops_after.now }
 {
-    if same_cells(lengths, lengths_after) {
-        return same_cells(stops, stops_after);
-    }
-    false
+    same_cells(lengths, lengths_after) && same_cells(stops, stops_after)
 }

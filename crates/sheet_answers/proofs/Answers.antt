@@ -3,7 +3,7 @@ use Prim.Native.Nat.{ℕ}
 use mathlib.Core.Path.{◌≡◌, ap}
 use mathlib.Core.List.{List}
 use native.Mathlib.Omega.{arith}
-use mathlib.Core.Option.{none, some}
+use Rattle.std.specs.Prelude.{None, Some}
 use lib.ListN.{length, take}
 use Rattle.planner.specs.models.Problem.{Problem}
 use Rattle.planner.specs.plan.Plan.{Slices, written}
@@ -25,21 +25,21 @@ use Rattle.sheet_answers.proofs.ListedLaws.{eliminate_follows}
 
 -- ---- a sheet that is refused
 
-planned_refused : (x : Sheet) (n : ℕ) → refusal_of (got x 0) ≡ some n → planned x ≡ refusal_line n
+planned_refused : (x : Sheet) (n : ℕ) → refusal_of (got x 0) ≡ Some n → planned x ≡ refusal_line n
 unfolding planned public_minimise reply
 planned_refused x n e = rw e
 
-pub refused_prints : (s : List ℕ) (n : ℕ) → sheet_refusal s ≡ some n → printed s ≡ refusal_line n
+pub refused_prints : (s : List ℕ) (n : ℕ) → sheet_refusal s ≡ Some n → printed s ≡ refusal_line n
 unfolding sheet_refusal printed
 refused_prints s n e = go (sheet s 0) e
   where
-    go : (r : Reading Sheet) → refusal_of r ≡ some n → printed_of r ≡ refusal_line n
+    go : (r : Reading Sheet) → refusal_of r ≡ Some n → printed_of r ≡ refusal_line n
     go (refused k) f = let h : k ≡ n = cc in ap refusal_line h
     go (got x i) f = planned_refused x n f
 
 -- ---- a sheet that is not
 
-eliminated_lists : (p : Problem) (s : Slices) (counts : Counts) (g : ℕ) → refusal (eliminate_inputs p s work) ≡ none → Listed (eliminated p s counts g)
+eliminated_lists : (p : Problem) (s : Slices) (counts : Counts) (g : ℕ) → refusal (eliminate_inputs p s work) ≡ None → Listed (eliminated p s counts g)
 unfolding eliminated public_eliminate reply
 eliminated_lists p s counts g e =
     let x = eliminate_routes p (plan_in s) in
@@ -52,7 +52,7 @@ eliminated_lists p s counts g e =
     }
 
 -- minimise is accepted, and then eliminate is
-planned_lists : (x : Sheet) → refusal_of (got x 0) ≡ none → Listed (planned x)
+planned_lists : (x : Sheet) → refusal_of (got x 0) ≡ None → Listed (planned x)
 unfolding planned public_minimise reply call
 planned_lists x e =
     let a = allowance x.run.limit x.run.clock x.tape in
@@ -61,10 +61,10 @@ planned_lists x e =
     let t = written (length x.plan.lengths) m.plan in
     rw e (eliminated_lists x.problem t m.counts (given x) (eliminate_follows x.problem x.plan (minimise a work) d t (rw e)))
 
-pub accepted_lists : (s : List ℕ) → sheet_refusal s ≡ none → Listed (printed s)
+pub accepted_lists : (s : List ℕ) → sheet_refusal s ≡ None → Listed (printed s)
 unfolding sheet_refusal printed
 accepted_lists s e = go (sheet s 0) e
   where
-    go : (r : Reading Sheet) → refusal_of r ≡ none → Listed (printed_of r)
+    go : (r : Reading Sheet) → refusal_of r ≡ None → Listed (printed_of r)
     go (refused k) f = let z : ◌≡◌ {A = ℕ} 0 1 = cc in absurd (omega arith)
     go (got x i) f = planned_lists x f

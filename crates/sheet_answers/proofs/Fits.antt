@@ -2,7 +2,7 @@
 use Prim.Native.Nat.{ℕ, ◌≤◌}
 use mathlib.Core.Path.{◌≡◌, refl, ap}
 use mathlib.Core.List.{List, [], ◌∷◌}
-use mathlib.Core.Option.{Option, none, some}
+use Rattle.std.specs.Prelude.{Option, None, Some}
 use native.Mathlib.Nat.{le_refl}
 use native.Mathlib.Omega.{arith}
 use lib.ListN.{length, take, length-take, length-map}
@@ -46,8 +46,8 @@ pub record Fewer (s t : Slices) : Type 0 where
 
 reply_fewer : (s : Slices) (o : Option ℕ) (x : Result) → length x.plan ≤ length (plan_in s) → ((c : ℕ) → occurs c x.plan ≡ occurs c (plan_in s)) → Fewer s (reply s o x).slices
 unfolding reply
-reply_fewer s (some k) x l e = record { routes = le_refl (length s.lengths); stops = le_refl (length s.stops) }
-reply_fewer s none x l e =
+reply_fewer s (Some k) x l e = record { routes = le_refl (length s.lengths); stops = le_refl (length s.stops) }
+reply_fewer s None x l e =
     let n = length s.lengths in
     let short : length (lengths_of x.plan) ≤ n = omega (arith, l, length-map x.plan length, length_split s.lengths s.stops) in
     record {

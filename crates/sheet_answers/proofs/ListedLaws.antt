@@ -2,7 +2,7 @@
 use Prim.Native.Nat.{ℕ, suc, ◌*◌, ◌^◌, ◌≤◌, ◌<◌}
 use mathlib.Core.Path.{◌≡◌, refl, sym, ap, subst, ◌∙◌}
 use mathlib.Core.List.{List, [], ◌∷◌}
-use mathlib.Core.Option.{Option, none, some}
+use Rattle.std.specs.Prelude.{Option, None, Some, Result, Ok, Err}
 use native.Mathlib.Nat.{mul-le-mul_right}
 use native.Mathlib.Omega.{arith}
 use lib.ListN.{length, take, length-take}
@@ -25,12 +25,11 @@ use Rattle.planner.specs.EntryEntryLaws.{own_rows}
 use Rattle.planner.specs.EntryAdmittedLaws.{Accepted, eliminate_accepted}
 use Rattle.planner.specs.Calls.{refused, answered, Reply, plan_in, reply, public_minimise, public_eliminate}
 use Rattle.planner.specs.Run.{Call, eliminate, call, run}
-use Rattle.planner.specs.declared.calls.Replied.{Replied}
-use Rattle.planner.specs.declared.calls.Replied.TheVariants.{Refused as NotReplied, Answered as RepliedAs}
+use Rattle.planner.specs.entry.refusal.declared.Refusal.{Refusal}
+use Rattle.planner.specs.entry.refusal.Number.{number}
 use Rattle.planner.specs.Told.{slices_of, work_of, reply_of}
 use Rattle.planner.proofs.Demand3.{demand_3}
 use Rattle.sheet_laws.specs.sheet_text.Text.{refused as refused-reading, got}
-use Rattle.sheet_laws.specs.SheetTextReadLaws.{told}
 use Rattle.sheet_laws.specs.sheet_format.Form.{Sheet, sheet}
 use Rattle.sheet_laws.specs.listing.Listing.{of_listing, Prints, listing, refusal_line}
 use Rattle.sheet_laws.specs.listing.Written.{Room, Written}
@@ -51,31 +50,31 @@ answer_is h = cc
 
 module _ (p : Problem) (s : Slices) (c : Call) where
   -- a call that is answered had a problem and a plan that pass the entry checks
-  entry_passed : (d : Reduction) (t : Slices) → said d t ≡ call p s c → entry p s ≡ none
+  entry_passed : (d : Reduction) (t : Slices) → said d t ≡ call p s c → entry p s ≡ None
   unfolding run
   entry_passed d t e = go (entry p s) refl
     where
-      go : (o : Option ℕ) → entry p s ≡ o → o ≡ none
-      go none f = refl
-      go (some k) f =
+      go : (o : Option ℕ) → entry p s ≡ o → o ≡ None
+      go None f = refl
+      go (Some k) f =
           let r : call p s c ≡ record { answer = refused k; slices = s } = all_head ((demand_3 p s (c ∷ [])).refused_whole k f) in
           let a = ap (λ (x : Reply). x.answer) (e ∙ r) in
           let z : ◌≡◌ {A = ℕ} 0 1 = cc in
           absurd (omega arith)
 
   -- and leaves a plan that does
-  entry_passed_after : (d : Reduction) (t : Slices) → said d t ≡ call p s c → entry p t ≡ none
+  entry_passed_after : (d : Reduction) (t : Slices) → said d t ≡ call p s c → entry p t ≡ None
   unfolding run
   entry_passed_after d t e =
       ap (λ (x : Reply). entry p x.slices) e ∙ (all_head ((demand_3 p s (c ∷ [])).demand (entry_passed d t e)).kept).accepted
 
 -- with enough work cells eliminate is refused by no row of its own
-own_none : (p : Problem) (s : Slices) → entry p s ≡ none → refusal (eliminate_inputs p s work) ≡ none
+own_none : (p : Problem) (s : Slices) → entry p s ≡ None → refusal (eliminate_inputs p s work) ≡ None
 unfolding first_applying table too_few
-own_none p s e = own_rows p s none none (some work) e
+own_none p s e = own_rows p s None None (Some work) e
 
 -- Eliminate after an accepted minimise is not refused.
-pub eliminate_follows : (p : Problem) (s : Slices) (c : Call) (d : Reduction) (t : Slices) → said d t ≡ call p s c → refusal (eliminate_inputs p t work) ≡ none
+pub eliminate_follows : (p : Problem) (s : Slices) (c : Call) (d : Reduction) (t : Slices) → said d t ≡ call p s c → refusal (eliminate_inputs p t work) ≡ None
 eliminate_follows p s c d t e = own_none p t (entry_passed_after p s c d t e)
 
 -- ---- what eliminate answers
@@ -89,11 +88,11 @@ few_routes p s d t e = go (refusal (eliminate_inputs p s work)) e
     x = eliminate_routes p (plan_in s)
 
     go : (o : Option ℕ) → said d t ≡ reply s o (record { plan = x; counts = record { steps = 0; draws = 0 } }) → d.routes ≤ length s.lengths
-    go (some k) f =
+    go (Some k) f =
         let a = ap (λ (y : Reply). y.answer) f in
         let z : ◌≡◌ {A = ℕ} 0 1 = cc in
         absurd (omega arith)
-    go none f =
+    go None f =
         let a = ap (λ (y : Reply). y.answer) f in
         let b : d.routes ≡ length x = ap (λ (y : Reduction). y.routes) (answer_is a) in
         omega (arith, b, (eliminate_keeps p (λ r. Unit {0}) (λ r h. tt) (plan_in s) (every (plan_in s))).no_longer, length_split s.lengths s.stops)
@@ -122,7 +121,7 @@ refusal_room out k h = record { fits = omega (arith, refusal_fits k) }
 module _
     (p : Problem)
     (s : Slices)
-    (a : Replied)
+    (a : Result Reduction Refusal)
     (lengths stops : List ℕ)
     (small wide : ℕ)
     (e : reply_of a lengths stops ≡ public_eliminate p s (work_of small wide))
@@ -133,15 +132,15 @@ module _
     lent = rw (h, g) at e
 
     module _ (counts : Counts) (given : ℕ) where
-      pub eliminate_refuses : (k : ℕ) → a ≡ NotReplied k → refusal_line k ≡ eliminated p s counts given
+      pub eliminate_refuses : (r : Refusal) (k : ℕ) → a ≡ Err r → k ≡ number r → refusal_line k ≡ eliminated p s counts given
       unfolding eliminated
-      eliminate_refuses k f =
-          let r : record { answer = refused k; slices = slices_of lengths stops } ≡ public_eliminate p s work = told (λ (b : Replied). reply_of b lengths stops) f lent in
-          rw (← r)
+      eliminate_refuses r k f m =
+          let x : record { answer = refused (number r); slices = slices_of lengths stops } ≡ public_eliminate p s work = rw f at lent in
+          rw (m, ← x)
 
-      module _ (d : Reduction) (f : a ≡ RepliedAs d) where
+      module _ (d : Reduction) (f : a ≡ Ok d) where
         answers : said d (slices_of lengths stops) ≡ public_eliminate p s work
-        answers = told (λ (b : Replied). reply_of b lengths stops) f lent
+        answers = rw f at lent
 
         -- the routes that are listed
         abbrev routes : Plan
@@ -190,7 +189,7 @@ module _
     (plan : Slices)
     (tape : List ℕ)
     (limit clock : ℕ)
-    (a : Replied)
+    (a : Result Reduction Refusal)
     (lengths stops : List ℕ)
     (small wide : ℕ)
     (e : reply_of a lengths stops ≡ public_minimise p plan (allowance limit clock tape) (work_of small wide))
@@ -200,16 +199,16 @@ module _
     lent_first : reply_of a lengths stops ≡ public_minimise p plan (allowance limit clock tape) work
     lent_first = rw (h, g) at e
 
-    pub minimise_refuses : (k : ℕ) → a ≡ NotReplied k → refusal_line k ≡ planned (sheet_of p plan tape limit clock)
+    pub minimise_refuses : (r : Refusal) (k : ℕ) → a ≡ Err r → k ≡ number r → refusal_line k ≡ planned (sheet_of p plan tape limit clock)
     unfolding planned
-    minimise_refuses k f =
-        let r : record { answer = refused k; slices = slices_of lengths stops } ≡ public_minimise p plan (allowance limit clock tape) work = told (λ (b : Replied). reply_of b lengths stops) f lent_first in
-        rw (← r)
+    minimise_refuses r k f m =
+        let x : record { answer = refused (number r); slices = slices_of lengths stops } ≡ public_minimise p plan (allowance limit clock tape) work = rw f at lent_first in
+        rw (m, ← x)
 
-    pub minimise_goes_on : (d : Reduction) → a ≡ RepliedAs d → eliminated p (slices_of lengths stops) d.counts (length plan.lengths) ≡ planned (sheet_of p plan tape limit clock)
+    pub minimise_goes_on : (d : Reduction) → a ≡ Ok d → eliminated p (slices_of lengths stops) d.counts (length plan.lengths) ≡ planned (sheet_of p plan tape limit clock)
     unfolding planned
     minimise_goes_on d f =
-        let r : said d (slices_of lengths stops) ≡ public_minimise p plan (allowance limit clock tape) work = told (λ (b : Replied). reply_of b lengths stops) f lent_first in
+        let r : said d (slices_of lengths stops) ≡ public_minimise p plan (allowance limit clock tape) work = rw f at lent_first in
         rw (← r)
 
 -- ---- the reader, in code

@@ -1,6 +1,6 @@
 -- What a sheet is refused with: "A sheet is tested for 10, then read front to back to its first fault (11 or 12), then 1 to 9." Assumes nothing.
 use Rattle.std.specs.Prelude.{ℕ, ◌≡◌, List}
-use Rattle.std.proofs.Math.Option.{Option, some}
+use Rattle.std.specs.Prelude.{Option, Some}
 use Rattle.planner.specs.models.Problem.{Problem}
 use Rattle.planner.specs.plan.Plan.{Plan}
 use Rattle.planner.specs.local_search.declared.rounds.Counts.{Counts}
@@ -13,7 +13,7 @@ use Rattle.sheet_answers.specs.Printed.{work}
 
 -- the number that reading came to, or the first row of the table that applies to what was read
 abbrev pub refusal_of : Reading Sheet → Option ℕ
-refusal_of (refused n) = some n
+refusal_of (refused n) = Some n
 refusal_of (got x at) = refusal (minimise_inputs x.problem x.plan x.tape x.run.limit work)
 
 unfoldable pub sheet_refusal : List ℕ → Option ℕ

@@ -8,7 +8,7 @@ ghost use Rattle.sheet_elimination.specs.listing.Written.{Written};
 ghost use Rattle.sheet_elimination.specs.sheet_laws.Short.{Short};
 ghost use Rattle.sheet_elimination.specs.sheet_answers.Printed.{planned, sheet_of};
 
-use minimise_call::{Replied, Vehicle, minimise};
+use minimise_call::{Vehicle, minimise};
 use sheet_elimination::list_eliminated;
 
 // Of the crates below, passed on to those above.
@@ -46,13 +46,13 @@ pub fn list_planned(
         flags, distances, times, vehicle,
     );
     match m {
-        Replied::Refused(k) => put_refusal(out, 0, k as u64),
-        Replied::Answered(d) => {
+        Ok(d) => {
             let counts = d.counts;
             list_eliminated(
                 out, lengths, stops, work, cells, counts, given, n, demand, service, ready, due,
                 penalty, flags, distances, times, vehicle,
             )
         }
+        Err(refusal) => put_refusal(out, 0, refusal.number() as u64),
     }
 }

@@ -5,57 +5,42 @@ ghost use Rattle.std.specs.Prelude.{◌≡◌};
 ghost use Rattle.sheet_format.specs.Form.{ready_cell as Form·ready-cell, due_cell as Form·due-cell, penalty_cell as Form·penalty-cell, flags_cell as Form·flags-cell};
 ghost use Rattle.sheet_format.specs.Form.{stop_cell as Form·stop-cell};
 
-use sheet_format::{Penalty, Window};
+use sheet_format::TimeWindow;
 
 // Of the crates below, passed on to those above.
-pub use sheet_format::places::{PlaceAt, place_line};
-pub use sheet_format::{
-    Count, NumberAt, SheetTextNext, byte, ending, heading, number_before, sheet_text_number,
-};
+pub use sheet_format::places::place_line;
+pub use sheet_format::{Refusal, byte, ending, heading, number_before, sheet_text_number};
 
 // READY as its cell holds it, 0 where there is none.
-pub fn ready_cell(window: Window) -> f64
+pub fn ready_cell(window: Option<TimeWindow>) -> f64
     ensures { result ≡ Form·ready-cell window }
 {
-    match window {
-        Window::None => 0.0,
-        Window::Is(w) => w.ready,
-    }
+    window.map_or(0.0, |w| w.ready)
 }
 
 // DUE as its cell holds it, 0 where there is none.
-pub fn due_cell(window: Window) -> f64
+pub fn due_cell(window: Option<TimeWindow>) -> f64
     ensures { result ≡ Form·due-cell window }
 {
-    match window {
-        Window::None => 0.0,
-        Window::Is(w) => w.due,
-    }
+    window.map_or(0.0, |w| w.due)
 }
 
 // PENALTY as its cell holds it, 0 where there is none.
-pub fn penalty_cell(penalty: Penalty) -> f64
+pub fn penalty_cell(penalty: Option<f64>) -> f64
     ensures { result ≡ Form·penalty-cell penalty }
 {
-    match penalty {
-        Penalty::None => 0.0,
-        Penalty::Of(p) => p,
-    }
+    penalty.unwrap_or(0.0)
 }
 
 // The flags: bit 0 for a window, bit 1 for a penalty.
-pub fn flags_cell(window: Window, penalty: Penalty) -> u8
+pub fn flags_cell(window: Option<TimeWindow>, penalty: Option<f64>) -> u8
     ensures { result ≡ Form·flags-cell window penalty }
 {
-    match window {
-        Window::None => match penalty {
-            Penalty::None => 0,
-            Penalty::Of(_) => 2,
-        },
-        Window::Is(_) => match penalty {
-            Penalty::None => 1,
-            Penalty::Of(_) => 3,
-        },
+    match (window, penalty) {
+        (None, None) => 0,
+        (Some(_), None) => 1,
+        (None, Some(_)) => 2,
+        (Some(_), Some(_)) => 3,
     }
 }
 

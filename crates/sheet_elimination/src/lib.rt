@@ -8,7 +8,7 @@ ghost use Rattle.listing_whole.specs.listing.Written.{Written};
 ghost use Rattle.sheet_answers.specs.sheet_laws.Short.{Short};
 ghost use Rattle.sheet_answers.specs.Printed.{eliminated};
 
-use eliminate_call::{Counts, Replied, Vehicle, eliminate};
+use eliminate_call::{Counts, Vehicle, eliminate};
 use listing_whole::put_listing;
 
 // Of the crates below, passed on to those above.
@@ -44,11 +44,9 @@ pub fn list_eliminated(
         times, vehicle,
     );
     match e {
-        Replied::Refused(k) => put_refusal(out, 0, k as u64),
-        Replied::Answered(d) => {
-            put_listing(
-                out, lengths, stops, d.routes, counts, given, demand, n, distances, vehicle,
-            )
-        }
+        Ok(d) => put_listing(
+            out, lengths, stops, d.routes, counts, given, demand, n, distances, vehicle,
+        ),
+        Err(refusal) => put_refusal(out, 0, refusal.number() as u64),
     }
 }

@@ -3,14 +3,14 @@ use Prim.Native.Nat.{ℕ, zero, suc, ◌+◌, ◌<◌}
 use mathlib.Core.Path.{◌≡◌, ap, sym, ◌∙◌}
 use mathlib.Core.Bool.{Bool, true, false}
 use mathlib.Core.List.{List}
-use mathlib.Core.Option.{none, some}
+use Rattle.std.specs.Prelude.{None, Some}
 use native.Mathlib.Omega.{arith}
-use lib.IntN.{ℤ, pos, neg_ℤ, ◌-ℤ◌, +ℤ_idl}
+use lib.IntN.{pos, neg_ℤ, ◌-ℤ◌, +ℤ_idl}
 use mir.Syntax.{w32}
 use mir.Val.{SFits, to_z, of_z}
 use mir.Facts.{to_z_pos, to_z-of_z}
 use borrow.Author.Tests.{ne_eqb}
-use Rattle.sheet_text.specs.Text.{Reading, refused, got, minus, byte_at, is_end, byte, number, signed, optional}
+use Rattle.sheet_text.specs.Text.{refused, got, minus, byte_at, is_end, byte, number, signed, optional}
 
 module _ (s : List ℕ) (at b : ℕ) (e : b ≡ byte_at s at) where
   module _ (m : b ≡ minus) where
@@ -22,7 +22,7 @@ module _ (s : List ℕ) (at b : ℕ) (e : b ≡ byte_at s at) where
     unfolding signed byte
     signed_minus_bad n = rw (sym e ∙ m, sym e ∙ m, ← n)
 
-    pub optional_none : (x : ℕ) (t : Bool) → x ≡ byte_at s (at + 1) → t ≡ is_end x → t ≡ true → got none (at + 1) ≡ optional s at
+    pub optional_none : (x : ℕ) (t : Bool) → x ≡ byte_at s (at + 1) → t ≡ is_end x → t ≡ true → got None (at + 1) ≡ optional s at
     unfolding optional byte
     optional_none x t f g y = rw (sym e ∙ m, sym e ∙ m, ap is_end (sym f) ∙ sym g ∙ y)
 
@@ -42,7 +42,7 @@ module _ (s : List ℕ) (at b : ℕ) (e : b ≡ byte_at s at) where
     unfolding signed
     signed_none n = rw (ne_eqb _ _ other, ← n)
 
-    pub optional_some : (v i : ℕ) → got v i ≡ number s at → got (some v) i ≡ optional s at
+    pub optional_some : (v i : ℕ) → got v i ≡ number s at → got (Some v) i ≡ optional s at
     unfolding optional
     optional_some v i n = rw (ne_eqb _ _ other, ← n)
 
@@ -70,7 +70,3 @@ neg_back v h = to_z-of_z (neg_fits v h) ∙ neg_z v h
 
 pub pos_fits : (v : ℕ) → v < 1000000000 → SFits w32 (pos v)
 pos_fits v h = record { sfits = omega arith }
-
--- a signed number that is handed on
-pub got_same : (v : ℤ) (i : ℕ) → SFits w32 v → got (to_z w32 (of_z w32 v)) i ≡ got v i
-got_same v i f = ap (λ (z : ℤ). got z i) (to_z-of_z f)

@@ -1,2 +1,2 @@
--- what an answer of this crate's readers says of a reading
+-- a minus sign before it is read, and a place that is handed on
 pub mod LineLaws

@@ -1,38 +1,31 @@
 -- The form of a sheet ("The rest: bound and sheet"), as a reader of bytes that runs: read front to back to its first fault, 11 or 12. The tokens
 -- and numbers are those of sheet_text, Text. Assumes nothing.
-use Rattle.std.specs.Prelude.{ℕ, zero, suc, ◌-◌, Bool, true, false, cond, ◌||◌, List, [], ◌∷◌, map, length, leb, eqb, ℤ, Float}
-use Rattle.std.proofs.Math.Option.{Option, none, some}
+use Rattle.std.specs.Prelude.{ℕ, zero, suc, ◌-◌, cond, ◌||◌, List, [], ◌∷◌, map, length, leb, eqb, Float}
+use Rattle.std.specs.Prelude.{Option, None, Some}
 use Rattle.models.specs.floats.Binary64.{0f}
 use Rattle.models.specs.floats.Whole.{nat}
 use Rattle.models.specs.declared.customer.TimeWindow.{TimeWindow}
-use Rattle.models.specs.declared.customer.Window.{Window}
-use Rattle.models.specs.declared.customer.Window.TheVariants.{None as NoWindow, Is as WindowIs}
-use Rattle.models.specs.declared.customer.Penalty.{Penalty}
-use Rattle.models.specs.declared.customer.Penalty.TheVariants.{None as NoPenalty, Of as PenaltyOf}
-use Rattle.models.specs.declared.vehicle.Limit.{Limit}
-use Rattle.models.specs.declared.vehicle.Limit.TheVariants.{None as NoLimit, At as LimitAt}
-use Rattle.models.specs.declared.vehicle.Rest.{Rest}
-use Rattle.models.specs.declared.vehicle.Rest.TheVariants.{None as NoRest, Break}
 use Rattle.models.specs.declared.vehicle.Vehicle.{Vehicle}
 use Rattle.models.specs.Customer.{customers}
 use Rattle.models.specs.Problem.{Problem, DistanceMatrix, matrix}
 use Rattle.plan.specs.Plan.{Plan, Slices, flat, lengths_of}
-use Rattle.sheet_fields.specs.sheet_text.Text.{Reading, refused, got, Parser, ◌>>=◌, ◌>>◌, pure, bytes, space, lf, minus, check, byte, before, number, if_minus, signed, optional, ending, repeat, line}
+use Rattle.sheet_fields.specs.sheet_text.Text.{Parser, ◌>>=◌, ◌>>◌, pure, bytes, space, lf, minus, check, byte, before, number, if_minus, signed, optional, ending, repeat, line}
 use Rattle.sheet_headings.specs.Heading.{heading}
 use Rattle.sheet_format.specs.declared.places.Place.{Place}
+use Rattle.models.specs.declared.vehicle.VehicleBreak.{VehicleBreak}
 
 -- ---- vehicle
 
--- "A lone - is none: .. either vehicle limit"
-abbrev pub limit_of : Option ℕ → Limit
-limit_of none = NoLimit
-limit_of (some most) = LimitAt (nat most)
+-- "A lone - is none: either vehicle limit, .. PENALTY": a number that may be none, as a float
+abbrev pub float_of : Option ℕ → Option Float
+float_of None = None
+float_of (Some n) = Some (nat n)
 
 -- a limit, and the byte b behind it
-unfoldable pub limit : ℕ → Parser Limit
+unfoldable pub limit : ℕ → Parser (Option Float)
 limit b = do
   most ← before b optional
-  pure (limit_of most)
+  pure (float_of most)
 
 -- "capacity, depot, fixed, cost per distance, distance limit, duration limit". "The depot is place 0."
 unfoldable pub vehicle_line : Parser Vehicle
@@ -52,7 +45,7 @@ vehicle_line = do
         cost_per_distance = nat per;
         max_distance = most;
         max_duration = latest;
-        rest = NoRest;
+        rest = None;
       })
 
 -- "vehicle (1: ..)"
@@ -64,29 +57,24 @@ vehicle = do
 -- ---- places
 
 -- "both of READY and DUE or neither"
-unfoldable pub window : Parser Window
+unfoldable pub window : Parser (Option TimeWindow)
 window =
     if_minus
     (do
       byte minus
       byte space
       byte minus
-      pure NoWindow)
+      pure None)
     (do
       ready ← before space number
       due ← number
-      pure (WindowIs (record { ready = nat ready; due = nat due })))
+      pure (Some (record { ready = nat ready; due = nat due })))
 
--- "A lone - is none: .. PENALTY"
-abbrev pub penalty_of : Option ℕ → Penalty
-penalty_of none = NoPenalty
-penalty_of (some p) = PenaltyOf (nat p)
-
--- the last of its line
-unfoldable pub penalty : Parser Penalty
+-- PENALTY, the last of its line
+unfoldable pub penalty : Parser (Option Float)
 penalty = do
   p ← before lf optional
-  pure (penalty_of p)
+  pure (float_of p)
 
 -- "demand, service, READY, DUE, PENALTY"
 unfoldable pub place : Parser Place
@@ -134,18 +122,18 @@ roads n = do
   pure (matrix n (row_by_row ds) (row_by_row ts))
 
 -- "break (0 or 1: earliest, latest, duration)"
-unfoldable pub rest_line : Parser Rest
+unfoldable pub rest_line : Parser (Option VehicleBreak)
 rest_line = do
   earliest ← before space number
   latest ← before space number
   duration ← before lf number
-  pure (Break (nat earliest) (nat latest) (nat duration))
+  pure (Some (record { earliest = nat earliest; latest = nat latest; duration = nat duration }))
 
-abbrev pub rest_lines : ℕ → Parser Rest
-rest_lines zero = pure NoRest
+abbrev pub rest_lines : ℕ → Parser (Option VehicleBreak)
+rest_lines zero = pure None
 rest_lines (suc m) = rest_line
 
-unfoldable pub break : Parser Rest
+unfoldable pub break : Parser (Option VehicleBreak)
 break = do
   m ← heading (bytes "break") 0 1 11
   rest_lines m
@@ -199,29 +187,29 @@ run = do
 -- ---- the sheet as a whole
 
 -- a place's cells: a value that is not there is 0, and its flag is clear ("flags (bit 0 window, bit 1 penalty)")
-abbrev pub ready_cell : Window → Float
-ready_cell NoWindow = 0f
-ready_cell (WindowIs w) = w.ready
+abbrev pub ready_cell : Option TimeWindow → Float
+ready_cell None = 0f
+ready_cell (Some w) = w.ready
 
-abbrev pub due_cell : Window → Float
-due_cell NoWindow = 0f
-due_cell (WindowIs w) = w.due
+abbrev pub due_cell : Option TimeWindow → Float
+due_cell None = 0f
+due_cell (Some w) = w.due
 
-abbrev pub penalty_cell : Penalty → Float
-penalty_cell NoPenalty = 0f
-penalty_cell (PenaltyOf p) = p
+abbrev pub penalty_cell : Option Float → Float
+penalty_cell None = 0f
+penalty_cell (Some p) = p
 
-abbrev pub flags_cell : Window → Penalty → ℕ
-flags_cell NoWindow NoPenalty = 0
-flags_cell (WindowIs w) NoPenalty = 1
-flags_cell NoWindow (PenaltyOf p) = 2
-flags_cell (WindowIs w) (PenaltyOf p) = 3
+abbrev pub flags_cell : Option TimeWindow → Option Float → ℕ
+flags_cell None None = 0
+flags_cell (Some w) None = 1
+flags_cell None (Some p) = 2
+flags_cell (Some w) (Some p) = 3
 
 -- a stop's cell is a u16: a number that does not fit becomes 65,535, which is no place either (row 6)
 abbrev pub stop_cell : ℕ → ℕ
 stop_cell c = cond (leb c 65535) c 65535
 
-abbrev pub with_rest : Vehicle → Rest → Vehicle
+abbrev pub with_rest : Vehicle → Option VehicleBreak → Vehicle
 with_rest v rest =
     record {
       capacity = v.capacity;
@@ -234,7 +222,7 @@ with_rest v rest =
     }
 
 -- the problem of what the first five sections hold
-unfoldable pub problem_of : Vehicle → List Place → DistanceMatrix → Rest → Problem
+unfoldable pub problem_of : Vehicle → List Place → DistanceMatrix → Option VehicleBreak → Problem
 problem_of v ps m rest =
     record {
       demand = map (λ p. p.demand) ps;

@@ -6,8 +6,6 @@ pub mod Opened
 pub mod Sample
 -- sheets that are refused, and some that are not
 pub mod Faults
--- what the answers of the code mean
-pub mod Told
 -- crates below, passed on to those above
 pub use Rattle.models.specs.laws as laws
 pub use Rattle.models.specs.floats as floats

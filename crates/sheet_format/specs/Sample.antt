@@ -1,9 +1,7 @@
 -- The sample sheet of "The rest: bound and sheet", and what is read of it. Assumes nothing.
-use Rattle.std.specs.Prelude.{ℕ, ◌≡◌, refl, List, [], ◌∷◌, pos}
+use Rattle.std.specs.Prelude.{ℕ, ◌≡◌, refl, List, [], ◌∷◌, pos, None}
 use Rattle.models.specs.floats.Binary64.{0f}
 use Rattle.models.specs.floats.Whole.{nat}
-use Rattle.models.specs.declared.vehicle.Limit.TheVariants.{None as NoLimit}
-use Rattle.models.specs.declared.vehicle.Rest.TheVariants.{None as NoRest}
 use Rattle.models.specs.Problem.{problem}
 use Rattle.sheet_fields.specs.sheet_text.Text.{got, bytes}
 use Rattle.sheet_format.specs.Form.{Sheet, sheet}
@@ -33,9 +31,9 @@ sample_sheet =
             depot_id = 0;
             fixed_cost = nat 0;
             cost_per_distance = nat 1;
-            max_distance = NoLimit;
-            max_duration = NoLimit;
-            rest = NoRest;
+            max_distance = None;
+            max_duration = None;
+            rest = None;
           });
       plan = record { lengths = 1 ∷ 1 ∷ []; stops = 1 ∷ 2 ∷ [] };
       tape = 7 ∷ [];

@@ -4,10 +4,9 @@
 pub mod places;
 
 // Of the crates below, passed on to those above.
-pub use models::customer::{Penalty, Window};
-pub use models::vehicle::{Limit, Rest, Vehicle};
+pub use models::customer::TimeWindow;
+pub use models::vehicle::{Vehicle, VehicleBreak};
 pub use sheet_fields::{
-    Count, NumberAt, OptionalAt, SheetTextNext, SignedAt, byte, ending, number_before,
-    optional_before, sheet_text_number, signed_before,
+    Refusal, byte, ending, number_before, optional_before, sheet_text_number, signed_before,
 };
 pub use sheet_headings::heading;

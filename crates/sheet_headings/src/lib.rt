@@ -2,52 +2,43 @@
 #![tactic(auto)]
 
 ghost use Rattle.std.specs.Prelude.{◌≡◌};
+ghost use Rattle.sheet_text.specs.refusal.Number.{number as refusal_number};
 ghost use Rattle.sheet_text.specs.Text.{word as Text·word};
-ghost use Rattle.sheet_text.specs.Told.{told_next, told_count};
+ghost use Rattle.sheet_text.specs.Told.{told_next, told_result};
 ghost use Rattle.sheet_headings.specs.Heading.{heading as Text·heading};
 
-use sheet_text::numbers::{Next, NumberAt, byte, number};
-use sheet_text::words::Count;
+use sheet_text::Refusal;
+use sheet_text::numbers::{byte, number};
 
 // The bytes of a word.
-fn word(s: &[u8], at: usize, w: &[u8]) -> Next
+fn word(s: &[u8], at: usize, w: &[u8]) -> Option<usize>
     ensures { told_next result ≡ Text·word w.now s.now at }
 {
     let mut i = at;
-    let mut j: usize = 0;
-    while j < w.len() {
-        let b = w[j];
-        let Next::At(k) = byte(s, i, b) else {
-            return Next::Bad;
-        };
-        i = k;
-        j += 1;
+    for b in w {
+        i = byte(s, i, *b)?;
     }
-    Next::At(i)
+    Some(i)
 }
 
 // A section's name and its count, which is refused with `refusal` unless it lies between least and most.
-pub fn heading(s: &[u8], at: usize, name: &[u8], least: usize, most: usize, refusal: u8) -> Count
-    ensures { told_count result ≡ Text·heading name.now least most refusal s.now at }
+pub fn heading(
+    s: &[u8],
+    at: usize,
+    name: &[u8],
+    least: usize,
+    most: usize,
+    refusal: Refusal,
+) -> Result<(usize, usize), Refusal>
+    ensures { told_result result ≡ Text·heading name.now least most (refusal_number refusal) s.now at }
 {
-    let Next::At(i) = word(s, at, name) else {
-        return Count::Refused(11);
-    };
-    let Next::At(j) = byte(s, i, 32) else {
-        return Count::Refused(11);
-    };
-    let NumberAt::Got(v, k) = number(s, j) else {
-        return Count::Refused(11);
-    };
+    let i = word(s, at, name).ok_or(Refusal::SheetForm)?;
+    let j = byte(s, i, 32).ok_or(Refusal::SheetForm)?;
+    let (v, k) = number(s, j).ok_or(Refusal::SheetForm)?;
     let n = v as usize;
-    if n < least {
-        return Count::Refused(refusal);
+    if n < least || n > most {
+        return Err(refusal);
     }
-    if n > most {
-        return Count::Refused(refusal);
-    }
-    let Next::At(e) = byte(s, k, 10) else {
-        return Count::Refused(11);
-    };
-    Count::Got(n, e)
+    let e = byte(s, k, 10).ok_or(Refusal::SheetForm)?;
+    Ok((n, e))
 }

@@ -36,7 +36,6 @@ cell_equal : (x c : ℕ) → x < 65535 → eqb x (stop_cell c) ≡ eqb x c
 cell_equal x c h = cell_cases (λ y. eqb x y ≡ eqb x c) c (λ l. refl) (λ l. ne_eqb x 65535 (λ e. omega (arith, e, h)) ∙ sym (ne_eqb x c (λ e. omega (arith, e, h, l))))
 
 any_cells : (x : ℕ) (before : List ℕ) → x < 65535 → any (eqb x) (map stop_cell before) ≡ any (eqb x) before
-unfolding any
 any_cells x [] h = refl
 any_cells x (c ∷ cs) h = rw (cell_equal x c h, any_cells x cs h)
 

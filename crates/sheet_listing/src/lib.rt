@@ -6,7 +6,7 @@ ghost use Rattle.sheet_parts.specs.sheet_reader.Cells.{columns_of, Room as Colum
 ghost use Rattle.sheet_parts.specs.listing.Written.{Written};
 ghost use Rattle.sheet_parts.specs.sheet_answers.Printed.{printed};
 
-use sheet_parts::{SheetAt, list_parts, put_refusal, sheet_whole_sheet as sheet};
+use sheet_parts::{list_parts, put_refusal, sheet_whole_sheet as sheet};
 
 // Reads the text into the slices, and plans what they hold.
 pub fn list_read(
@@ -32,14 +32,34 @@ pub fn list_read(
     requires in_bounds_3 { (4096 ≤ length distances.old) × (4096 ≤ length times.old) }
     ensures { Written out.old 0 (printed text.now) out.new result }
 {
-    let x = sheet(
+    match sheet(
         lengths, stops, tape, demand, service, ready, due, penalty, flags, distances, times, text,
-    );
-    match x {
-        SheetAt::Refused(k) => put_refusal(out, 0, k as u64),
-        SheetAt::Got(head, draws, given, used, limit, clock, _) => list_parts(
-            out, lengths, stops, work, cells, tape, demand, service, ready, due, penalty, flags,
-            distances, times, head, draws, given, used, limit, clock,
-        ),
+    ) {
+        Err(refusal) => put_refusal(out, 0, refusal.number() as u64),
+        Ok((read, _)) => {
+            let asked = read.request;
+            list_parts(
+                out,
+                lengths,
+                stops,
+                work,
+                cells,
+                tape,
+                demand,
+                service,
+                ready,
+                due,
+                penalty,
+                flags,
+                distances,
+                times,
+                read.head,
+                asked.draws,
+                asked.given,
+                asked.used,
+                asked.limit,
+                asked.clock,
+            )
+        }
     }
 }

@@ -13,7 +13,7 @@ use sheet_whole::Head;
 
 // Of the crates below, passed on to those above.
 pub use sheet_calls::put_refusal;
-pub use sheet_whole::sheet::{SheetAt, sheet as sheet_whole_sheet};
+pub use sheet_whole::sheet::sheet as sheet_whole_sheet;
 
 // Plans what the slices hold of a sheet.
 pub fn list_parts(

@@ -9,13 +9,6 @@ ghost use Rattle.sheet_planner.specs.Output.{output, into};
 use sheet_listing::list_read;
 use sheet_room::{f64s_64, f64s_2048, f64s_4096, i32s_64, u8s_64, u16s_64, u16s_8192, u64s_1024};
 
-// There is no room for what may be printed, or so many bytes are printed.
-#[derive(Clone, Copy)]
-pub enum Printed {
-    NoRoom,
-    Bytes(usize),
-}
-
 // Prints what a text prints.
 fn listed(out: &mut [u8], text: &[u8]) -> usize
     requires { 6000 ≤ length out.old }
@@ -53,13 +46,13 @@ fn listed(out: &mut [u8], text: &[u8]) -> usize
     )
 }
 
-// Prints what a text prints into a slice of at least 6,000 bytes; the rest of the slice stays as it is.
-pub fn plan_sheet(out: &mut [u8], text: &[u8]) -> Printed
+// Prints what a text prints into a slice of at least 6,000 bytes, and says how many bytes that are; the rest of the slice stays as it is. A shorter slice
+// has no room, and nothing is printed.
+pub fn plan_sheet(out: &mut [u8], text: &[u8]) -> Option<usize>
     ensures { output result out.new ≡ into out.old (printed text.now) }
 {
     if out.len() < 6000 {
-        return Printed::NoRoom;
+        return None;
     }
-    let n = listed(out, text);
-    Printed::Bytes(n)
+    Some(listed(out, text))
 }

@@ -3,7 +3,7 @@
 
 ghost use Rattle.std.specs.Prelude.{◌≡◌, length};
 
-use sheet_planner::{Printed, plan_sheet};
+use sheet_planner::plan_sheet;
 
 // Standard output.
 const STDOUT: i32 = 1;
@@ -18,10 +18,7 @@ pub fn listing_room() -> [u8; 6000]
 // Writes what a text prints: its listing, or the line of its refusal.
 pub fn print_sheet(out: &mut [u8], text: &[u8]) {
     let p = plan_sheet(out, text);
-    match p {
-        Printed::NoRoom => {}
-        Printed::Bytes(n) => {
-            io::write_all(STDOUT, &out[..n]);
-        }
+    if let Some(n) = p {
+        io::write_all(STDOUT, &out[..n]);
     }
 }

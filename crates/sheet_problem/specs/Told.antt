@@ -1,12 +1,12 @@
 -- What the answer of the reader of a problem means, with what the slices hold after it. Assumes nothing.
-use Rattle.std.specs.Prelude.{ℕ, ◌*◌, ◌≤◌, List, take, Float}
+use Rattle.std.specs.Prelude.{ℕ, ◌*◌, ◌≤◌, List, take, Float, Result, Ok, Err}
 use Rattle.sheet_vehicle.specs.models.Customer.{customers}
 use Rattle.sheet_vehicle.specs.models.Problem.{Problem, matrix}
-use Rattle.sheet_vehicle.specs.sheet_text.Text.{Reading, refused, got}
+use Rattle.sheet_vehicle.specs.sheet_text.refusal.declared.Refusal.{Refusal}
+use Rattle.sheet_vehicle.specs.sheet_text.Text.{Reading, map_reading}
+use Rattle.sheet_vehicle.specs.sheet_text.Told.{told_result}
 use Rattle.sheet_roads.specs.sheet_reader.Cells.{Columns}
 use Rattle.sheet_problem.specs.declared.Head.{Head}
-use Rattle.sheet_problem.specs.declared.ProblemAt.{ProblemAt}
-use Rattle.sheet_problem.specs.declared.ProblemAt.TheVariants.{Got as ProblemGot, Refused as ProblemRefused}
 
 -- the problem that the slices hold: n places, n rows of distances and so many of times
 abbrev pub problem_in : Columns → List Float → List Float → Head → Problem
@@ -18,11 +18,10 @@ problem_in c distances times h =
       vehicle = h.vehicle;
     }
 
-abbrev pub told_problem : Columns → List Float → List Float → ProblemAt → Reading Problem
-told_problem c distances times (ProblemGot h i) = got (problem_in c distances times h) i
-told_problem c distances times (ProblemRefused k) = refused k
+abbrev pub told_problem : Columns → List Float → List Float → Result (Head × ℕ) Refusal → Reading Problem
+told_problem c distances times r = map_reading (problem_in c distances times) (told_result r)
 
 -- where a problem was read it has at most 64 places
-abbrev pub ProblemWithin : ProblemAt → Type 0
-ProblemWithin (ProblemGot h i) = (h.n ≤ 64) × (h.timed ≤ h.n)
-ProblemWithin (ProblemRefused k) = Unit
+abbrev pub ProblemWithin : Result (Head × ℕ) Refusal → Type 0
+ProblemWithin (Ok (h, i)) = (h.n ≤ 64) × (h.timed ≤ h.n)
+ProblemWithin (Err k) = Unit

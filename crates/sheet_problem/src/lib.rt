@@ -6,9 +6,12 @@ ghost use Rattle.sheet_vehicle.specs.sheet_format.Form.{whole_problem};
 ghost use Rattle.sheet_roads.specs.sheet_reader.Cells.{columns_of, Room};
 ghost use Rattle.sheet_problem.specs.Told.{told_problem, ProblemWithin};
 
-use sheet_rest::{RestAt, rest, with_rest};
+use sheet_rest::{rest, with_rest};
 use sheet_roads::{roads, sheet_reader_places as places};
-use sheet_vehicle::{Count, Vehicle, VehicleAt, vehicle};
+use sheet_vehicle::{Vehicle, vehicle};
+
+// Of the crates below, passed on to those above.
+pub use sheet_vehicle::Refusal;
 
 // How many places there are, how many rows of times, and the vehicle.
 #[derive(Clone, Copy)]
@@ -16,13 +19,6 @@ pub struct Head {
     pub n: usize,
     pub timed: usize,
     pub vehicle: Vehicle,
-}
-
-// The head of a problem and the position after it, or the number of a refusal.
-#[derive(Clone, Copy)]
-pub enum ProblemAt {
-    Got(Head, usize),
-    Refused(u8),
 }
 
 // The sections of the problem, into the slices.
@@ -37,37 +33,18 @@ pub fn problem(
     times: &mut [f64],
     s: &[u8],
     at: usize,
-) -> ProblemAt
+) -> Result<(Head, usize), Refusal>
     requires room { Room 64 (columns_of demand.old service.old ready.old due.old penalty.old flags.old) }
     requires in_bounds { 4096 ≤ length distances.old }
     requires in_bounds_2 { 4096 ≤ length times.old }
     ensures result_after { told_problem (columns_of demand.new service.new ready.new due.new penalty.new flags.new) distances.new times.new result ≡ whole_problem s.now at }
     ensures problem_within { ProblemWithin result }
 {
-    let v = vehicle(s, at);
-    match v {
-        VehicleAt::Refused(k) => ProblemAt::Refused(k),
-        VehicleAt::Got(van, i) => {
-            let p = places(demand, service, ready, due, penalty, flags, s, i);
-            match p {
-                Count::Refused(k) => ProblemAt::Refused(k),
-                Count::Got(n, j) => {
-                    let m = roads(distances, times, s, j, n);
-                    match m {
-                        Count::Refused(k) => ProblemAt::Refused(k),
-                        Count::Got(timed, l) => {
-                            let b = rest(s, l);
-                            match b {
-                                RestAt::Refused(k) => ProblemAt::Refused(k),
-                                RestAt::Got(pause, e) => {
-                                    let vehicle = with_rest(van, pause);
-                                    ProblemAt::Got(Head { n, timed, vehicle }, e)
-                                }
-                            }
-                        }
-                    }
-                }
-            }
-        }
-    }
+    let (van, i) = vehicle(s, at)?;
+    let (n, j) = places(demand, service, ready, due, penalty, flags, s, i)?;
+    let (timed, l) = roads(distances, times, s, j, n)?;
+    let (pause, e) = rest(s, l)?;
+    let vehicle = with_rest(van, pause);
+    let head = Head { n, timed, vehicle };
+    Ok((head, e))
 }

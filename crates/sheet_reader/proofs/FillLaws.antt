@@ -1,6 +1,6 @@
 -- Loops that read one thing after the other into slices. The invariant: the whole reading is the reading of what is left, seen through what the
 -- slices hold by now. Assumes nothing.
-use Prim.Native.Nat.{ℕ, suc, ◌+◌, ◌-◌, ◌≤◌, ◌<◌}
+use Prim.Native.Nat.{ℕ, suc, ◌+◌, ◌≤◌, ◌<◌}
 use mathlib.Core.Path.{◌≡◌, refl, ap, sym, ◌∙◌}
 use mathlib.Core.List.{List, [], ◌∷◌, ◌++◌, map, append_assoc, append-nil}
 use native.Mathlib.Omega.{arith}
@@ -8,10 +8,6 @@ use native.Mathlib.Numerals.{add-one}
 use lib.ListN.{length, take, set}
 use lib.Seq.{take-suc-set}
 use Rattle.sheet_cells.specs.sheet_text.Text.{Reading, refused, got, next, Parser, map_reading, before, number, ending, repeat}
-use Rattle.sheet_cells.specs.sheet_text.Told.{told_number}
-use Rattle.sheet_cells.specs.sheet_text.declared.numbers.NumberAt.{NumberAt}
-use Rattle.sheet_cells.specs.sheet_text.declared.numbers.NumberAt.TheVariants.{Got as NumberGot, Bad as NumberBad}
-use Rattle.sheet_cells.specs.SheetTextReadLaws.{told}
 use Rattle.sheet_reader.specs.Cells.{front}
 
 -- ---- readings seen through a function
@@ -54,23 +50,20 @@ module _ {A S : Type 0} (q : ℕ → Parser A) (s : List ℕ) (w : Reading S) (F
       let z : left ≡ 0 = omega arith in
       sym (e ∙ ap (λ (k : ℕ). map_reading F (repeat k q s a)) z)
 
-  module _ (h : 0 < left) where
-    more : left ≡ suc (left - 1)
-    more = omega arith
-
-    pub fill_fault : (n : ℕ) → refused n ≡ q (left - 1) s a → refused n ≡ w
+  module _ (m : ℕ) (h : left ≡ suc m) where
+    pub fill_fault : (n : ℕ) → refused n ≡ q m s a → refused n ≡ w
     unfolding repeat
-    fill_fault n f = sym (e ∙ ap (λ (k : ℕ). map_reading F (repeat k q s a)) more ∙ rw (← f))
+    fill_fault n f = sym (e ∙ ap (λ (k : ℕ). map_reading F (repeat k q s a)) h ∙ rw (← f))
 
-    pub fill_turn : (G : List A → S) (x : A) (j : ℕ) → got x j ≡ q (left - 1) s a → ((xs : List A) → F (x ∷ xs) ≡ G xs) → w ≡ map_reading G (repeat (left - 1) q s j)
+    pub fill_turn : (G : List A → S) (x : A) (j : ℕ) → got x j ≡ q m s a → ((xs : List A) → F (x ∷ xs) ≡ G xs) → w ≡ map_reading G (repeat m q s j)
     unfolding repeat
     fill_turn G x j f g =
         e
-        ∙ ap (λ (k : ℕ). map_reading F (repeat k q s a)) more
-        ∙ ap (λ r. map_reading F (next r (λ y i. next (repeat (left - 1) q s i) (λ l k. got (y ∷ l) k)))) (sym f)
-        ∙ ap (map_reading F) (next_map (λ l. x ∷ l) (repeat (left - 1) q s j))
-        ∙ map_map F (λ l. x ∷ l) (repeat (left - 1) q s j)
-        ∙ map_same (λ l. F (x ∷ l)) G (repeat (left - 1) q s j) g
+        ∙ ap (λ (k : ℕ). map_reading F (repeat k q s a)) h
+        ∙ ap (λ r. map_reading F (next r (λ y i. next (repeat m q s i) (λ l k. got (y ∷ l) k)))) (sym f)
+        ∙ ap (map_reading F) (next_map (λ l. x ∷ l) (repeat m q s j))
+        ∙ map_map F (λ l. x ∷ l) (repeat m q s j)
+        ∙ map_same (λ l. F (x ∷ l)) G (repeat m q s j) g
 
 -- ---- numbers into the cells of one slice
 
@@ -87,19 +80,17 @@ module _
         let z : p ≡ m = omega arith in
         ap (λ (k : ℕ). got (take k cells) a) (sym z) ∙ ap (λ l. got l a) (sym (append-nil (take p cells))) ∙ fill_end q s w (front f cells p) a left e h
 
-    pub row_fault : 0 < left → refused 11 ≡ q (left - 1) s a → refused 11 ≡ w
-    row_fault h g = fill_fault q s w (front f cells p) a left e h 11 g
+    module _ (m : ℕ) (h : left ≡ suc m) where
+      pub row_fault : refused 11 ≡ q m s a → refused 11 ≡ w
+      row_fault g = fill_fault q s w (front f cells p) a left e m h 11 g
 
-    pub row_turn : 0 < left → p < length cells → (v j : ℕ) (y : A) → got v j ≡ q (left - 1) s a → y ≡ f v → w ≡ map_reading (front f (set cells p y) (p + 1)) (repeat (left - 1) q s j)
-    row_turn h r v j y g z = rw z (fill_turn q s w (front f cells p) a left e h (front f (set cells p (f v)) (p + 1)) v j g (λ vs. cell_filled cells p (f v) (map f vs) r))
+      pub row_turn : (n : ℕ) → n ≡ p + 1 → p < length cells → (v j : ℕ) (y : A) → got v j ≡ q m s a → y ≡ f v → w ≡ map_reading (front f (set cells p y) n) (repeat m q s j)
+      row_turn n o r v j y g z =
+          rw (z, o) (fill_turn q s w (front f cells p) a left e m h (front f (set cells p (f v)) (p + 1)) v j g (λ vs. cell_filled cells p (f v) (map f vs) r))
 
 -- what stands behind a number is what the line asks for
-module _ (s : List ℕ) (a x m : ℕ) (r : NumberAt) where
-  pub ended : (v j : ℕ) → r ≡ NumberGot v j → x ≡ ending m → told_number r ≡ before x number s a → got v j ≡ before (ending m) number s a
-  ended v j k e t = told told_number k t ∙ ap (λ (y : ℕ). before y number s a) e
-
-  pub not_ended : r ≡ NumberBad → x ≡ ending m → told_number r ≡ before x number s a → refused 11 ≡ before (ending m) number s a
-  not_ended k e t = told told_number k t ∙ ap (λ (y : ℕ). before y number s a) e
+pub ended : (s : List ℕ) (a x m : ℕ) (r : Reading ℕ) → x ≡ ending m → r ≡ before x number s a → r ≡ before (ending m) number s a
+ended s a x m r e t = t ∙ ap (λ (y : ℕ). before y number s a) e
 
 -- nothing is filled yet, and each number is to be kept as it is
 pub none_yet : (cells : List ℕ) (r : Reading (List ℕ)) → r ≡ map_reading (front (λ (v : ℕ). v) cells 0) r

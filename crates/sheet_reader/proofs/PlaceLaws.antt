@@ -1,5 +1,5 @@
 -- Places that are read into the six slices. Assumes nothing.
-use Prim.Native.Nat.{ℕ, ◌+◌, ◌-◌, ◌≤◌, ◌<◌}
+use Prim.Native.Nat.{ℕ, suc, ◌+◌, ◌≤◌, ◌<◌}
 use mathlib.Core.Path.{◌≡◌, refl, ap, sym, ◌∙◌}
 use mathlib.Core.List.{List, [], ◌∷◌, ◌++◌, append_assoc, append-nil}
 use native.Mathlib.Omega.{arith}
@@ -9,12 +9,8 @@ use lib.Seq.{take-suc-set}
 use lib.IntN.{ℤ}
 use lib.Ieee.{Float}
 use Rattle.sheet_cells.specs.sheet_text.Text.{Reading, refused, got, map_reading, repeat}
-use Rattle.sheet_cells.specs.SheetTextReadLaws.{told}
 use Rattle.sheet_cells.specs.sheet_format.declared.places.Place.{Place}
-use Rattle.sheet_cells.specs.sheet_format.declared.places.PlaceAt.{PlaceAt}
-use Rattle.sheet_cells.specs.sheet_format.declared.places.PlaceAt.TheVariants.{Got as PlaceGot, Bad as PlaceBad}
 use Rattle.sheet_cells.specs.sheet_format.Form.{ready_cell, due_cell, penalty_cell, flags_cell, place}
-use Rattle.sheet_cells.specs.sheet_format.Told.{told_place}
 use Rattle.sheet_reader.specs.Cells.{Columns, columns_of, columns, first_cells, join, add_place, Room, Sizes}
 use Rattle.sheet_reader.proofs.FillLaws.{got_of, refused_of, fill_end, fill_fault, fill_turn}
 
@@ -51,14 +47,14 @@ module _ (d : List ℤ) (v r u p : List Float) (f : List ℕ) (i : ℕ) (room : 
         added f i (flags_cell x.customer.time_window x.customer.lateness_penalty) room.flag_cells,
       )
 
-  module _ (s : List ℕ) (at : ℕ) (k : PlaceAt) (t : told_place k ≡ place s at) where
-    pub place_fault : k ≡ PlaceBad → refused 11 ≡ map_reading (add_place before) (place s at)
-    place_fault e = ap (map_reading (add_place before)) (told told_place e t)
+  module _ (s : List ℕ) (at : ℕ) where
+    pub place_fault : refused 11 ≡ place s at → refused 11 ≡ map_reading (add_place before) (place s at)
+    place_fault e = ap (map_reading (add_place before)) e
 
     -- the line of a place, in the cells
     pub place_filled
         : (x : Place) (e : ℕ) (y : ℤ) (yr yu yp : Float) (yf : ℕ)
-        → k ≡ PlaceGot x e
+        → got x e ≡ place s at
         → y ≡ x.demand
         → yr ≡ ready_cell x.customer.time_window
         → yu ≡ due_cell x.customer.time_window
@@ -67,7 +63,7 @@ module _ (d : List ℤ) (v r u p : List Float) (f : List ℕ) (i : ℕ) (room : 
         → got (first_cells (i + 1) (columns_of (set d i y) (set v i x.customer.service_duration) (set r i yr) (set u i yu) (set p i yp) (set f i yf))) e
         ≡ map_reading (add_place before) (place s at)
     place_filled x e y yr yu yp yf n hy hr hu hp hf =
-        ap (λ (c : Columns). got c e) (rw (hy, hr, hu, hp, hf) (cells_filled x)) ∙ ap (map_reading (add_place before)) (told told_place n t)
+        ap (λ (c : Columns). got c e) (rw (hy, hr, hu, hp, hf) (cells_filled x)) ∙ ap (map_reading (add_place before)) n
 
 -- ---- places one after the other
 
@@ -98,22 +94,21 @@ join_none c =
     rw (append-nil c.demand, append-nil c.service, append-nil c.ready, append-nil c.due, append-nil c.penalty, append-nil c.flags)
 
 module _ (s : List ℕ) (w : Reading Columns) (c : Columns) (i a left : ℕ) (e : w ≡ map_reading (behind i c) (repeat left (λ l. place) s a)) where
-  pub places_end : (n : ℕ) → i + left ≡ n → left ≤ 0 → got (first_cells n c) a ≡ w
-  places_end n y h =
-      let z : i ≡ n = omega arith in
+  pub places_end : (n : ℕ) → i ≡ n → left ≤ 0 → got (first_cells n c) a ≡ w
+  places_end n z h =
       ap (λ (k : ℕ). got (first_cells k c) a) (sym z)
       ∙ ap (λ (d : Columns). got d a) (sym (join_none (first_cells i c)))
       ∙ fill_end (λ l. place) s w (behind i c) a left e h
 
-  module _ (h : 0 < left) where
+  module _ (m : ℕ) (h : left ≡ suc m) where
     pub places_fault : refused 11 ≡ map_reading (add_place (first_cells i c)) (place s a) → refused 11 ≡ w
-    places_fault g = fill_fault (λ l. place) s w (behind i c) a left e h 11 (refused_of (add_place (first_cells i c)) (place s a) g)
+    places_fault g = fill_fault (λ l. place) s w (behind i c) a left e m h 11 (refused_of (add_place (first_cells i c)) (place s a) g)
 
     pub places_turn : (d : Columns) (j : ℕ) → got (first_cells (i + 1) d) j ≡ map_reading (add_place (first_cells i c)) (place s a)
-        → w ≡ map_reading (behind (i + 1) d) (repeat (left - 1) (λ l. place) s j)
+        → w ≡ map_reading (behind (i + 1) d) (repeat m (λ l. place) s j)
     places_turn d j g =
         let x = got_of (add_place (first_cells i c)) (place s a) g in
-        fill_turn (λ l. place) s w (behind i c) a left e h (behind (i + 1) d) x.0 j x.1
+        fill_turn (λ l. place) s w (behind i c) a left e m h (behind (i + 1) d) x.0 j x.1
         (λ ps. join_more (first_cells i c) x.0 ps ∙ ap (λ (b : Columns). join b (columns ps)) (sym x.2))
 
 pub room_now : (c first : Columns) (n m : ℕ) → Room n first → Sizes c first → m ≤ n → Room m c

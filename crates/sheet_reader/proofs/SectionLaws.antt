@@ -1,19 +1,17 @@
--- Sections: what a heading says of its count, and readings that go on behind it: the ruleset `sections`. Assumes nothing.
+-- Sections: what a heading says of its count, and what an answer on filled slices says of a reading. Assumes nothing.
 use Prim.Native.Nat.{ℕ, ◌≤◌}
 use mathlib.Core.Path.{◌≡◌, refl, ap, sym, ◌∙◌, subst}
 use mathlib.Core.Bool.{Bool, true, false, ◌&&◌}
 use mathlib.Core.List.{List}
 use lib.Dec.{leb}
 use borrow.Author.Tests.{leb-true}
-use Rattle.sheet_cells.specs.sheet_text.Text.{Reading, refused, got, next, check, map_reading, word, byte, number, space, lf}
-use Rattle.sheet_cells.specs.sheet_text.Told.{told_count}
-use Rattle.sheet_cells.specs.sheet_text.declared.numbers.Next.{Next}
-use Rattle.sheet_cells.specs.sheet_text.declared.numbers.Next.TheVariants.{At as NextAt, Bad as NextBad}
-use Rattle.sheet_cells.specs.sheet_text.declared.words.Count.{Count}
-use Rattle.sheet_cells.specs.sheet_text.declared.words.Count.TheVariants.{Got as CountGot}
+use Rattle.sheet_cells.specs.sheet_text.Text.{Reading, refused, got, next, check, word, byte, number as text_number, space, lf}
+use Rattle.sheet_cells.specs.sheet_text.refusal.declared.Refusal.{Refusal}
+use Rattle.std.specs.Prelude.{Option, Some, None, Result, Ok, Err}
+use Rattle.std.specs.Result.{IsErrAnd}
 use Rattle.sheet_cells.specs.SheetTextReadLaws.{told}
 use Rattle.sheet_cells.specs.sheet_headings.Heading.{heading}
-use Rattle.sheet_reader.specs.Cells.{filled}
+use Rattle.sheet_reader.specs.Cells.{AtMost, filled}
 
 -- ---- counts
 
@@ -39,35 +37,25 @@ module _ (least most : ℕ) where
   unfolding heading
   all_within name k s at =
       next_rule (Within least most) (λ m. tt) (word name s at)
-      (λ a i. next_rule (Within least most) (λ m. tt) (byte space s i) (λ b j. next_rule (Within least most) (λ m. tt) (number s j) (λ n l. checked n k s l)))
+      (λ a i. next_rule (Within least most) (λ m. tt) (byte space s i) (λ b j. next_rule (Within least most) (λ m. tt) (text_number s j) (λ n l. checked n k s l)))
 
 -- a count that was read lies between least and most
-pub count_within : (h : Count) (name : List ℕ) (least most k : ℕ) (s : List ℕ) (at n i : ℕ)
-    → h ≡ CountGot n i → told_count h ≡ heading name least most k s at → (least ≤ n) × (n ≤ most)
-count_within h name least most k s at n i e t = subst (Within least most) (sym (told told_count e t)) (all_within least most name k s at)
+pub count_within : (name : List ℕ) (least most k : ℕ) (s : List ℕ) (at n i : ℕ) → got n i ≡ heading name least most k s at → (least ≤ n) × (n ≤ most)
+count_within name least most k s at n i t = subst (Within least most) (sym t) (all_within least most name k s at)
 
--- ---- readings seen through what slices hold
+-- a count that was not read is within any bound
+pub no_count : (most : ℕ) (r : Result (ℕ × ℕ) Refusal) (k : Refusal) → IsErrAnd r (λ y. y ≡ k) → AtMost most r
+no_count most (Ok (n, i)) k e = absurd e
+no_count most (Err x) k e = tt
 
-pub map_refused : {B C : Type 0} (F : B → C) (p : Reading B) (n : ℕ) → refused n ≡ p → refused n ≡ map_reading F p
-map_refused F p n e = ap (map_reading F) e
+-- ---- an answer on filled slices
 
-module _ {A B C : Type 0} (F : B → C) where
-  map_next : (p : Reading A) (f : A → ℕ → Reading B) (a : A) (i : ℕ) (y : Reading C) → got a i ≡ p → y ≡ map_reading F (f a i) → y ≡ map_reading F (next p f)
-  map_next p f a i y e g = g ∙ ap (λ (r : Reading A). map_reading F (next r f)) e
-
-pub map_count : {B C : Type 0} (F : B → C) (h : Count) (n i : ℕ) (p : Reading ℕ) (f : ℕ → ℕ → Reading B) (y : Reading C)
-    → told_count h ≡ p → h ≡ CountGot n i → y ≡ map_reading F (f n i) → y ≡ map_reading F (next p f)
-map_count F h n i p f y t e g = map_next F p f n i y (told told_count e t) g
-
-pub map_check : {B C : Type 0} (F : B → C) (b : Bool) (k : ℕ) (s : List ℕ) (at : ℕ) (f : Unit {0} → ℕ → Reading B) (y : Reading C)
-    → b ≡ true → y ≡ map_reading F (f tt at) → y ≡ map_reading F (next (check b k s at) f)
-map_check F b k s at f y e g = g ∙ rw e
-
-module _ {S : Type 0} (cells : S) (r : Next) (p : Reading S) where
-  pub filled_at : (i : ℕ) → r ≡ NextAt i → filled cells r ≡ p → got cells i ≡ p
+module _ {S : Type 0} (cells : S) (r : Option ℕ) (p : Reading S) where
+  pub filled_at : (i : ℕ) → r ≡ Some i → filled cells r ≡ p → got cells i ≡ p
   filled_at i = told (filled cells)
 
-  pub filled_bad : r ≡ NextBad → filled cells r ≡ p → refused 11 ≡ p
+  pub filled_bad : r ≡ None → filled cells r ≡ p → refused 11 ≡ p
   filled_bad = told (filled cells)
 
-pub ruleset sections = (map_refused, map_count, map_check, filled_at, filled_bad)
+  pub none_filled : r ≡ None → refused 11 ≡ p → filled cells r ≡ p
+  none_filled e g = ap (filled cells) e ∙ g

@@ -1,10 +1,8 @@
 -- How lent slices hold what is read: in their first cells, one after the other. Assumes nothing.
-use Rattle.std.specs.Prelude.{ℕ, ◌≤◌, ◌≡◌, List, [], ◌∷◌, ◌++◌, map, length, take, ℤ, Float}
-use Rattle.sheet_cells.specs.sheet_text.Text.{Reading, refused, got}
-use Rattle.sheet_cells.specs.sheet_text.declared.numbers.Next.{Next}
-use Rattle.sheet_cells.specs.sheet_text.declared.numbers.Next.TheVariants.{At as NextAt, Bad as NextBad}
-use Rattle.sheet_cells.specs.sheet_text.declared.words.Count.{Count}
-use Rattle.sheet_cells.specs.sheet_text.declared.words.Count.TheVariants.{Got as CountGot, Refused as CountRefused}
+use Rattle.std.specs.Prelude.{ℕ, ◌≤◌, ◌≡◌, List, [], ◌∷◌, ◌++◌, map, length, take, ℤ, Float, Option, Some, None, Result, Ok, Err}
+use Rattle.sheet_cells.specs.sheet_text.refusal.declared.Refusal.{Refusal}
+use Rattle.sheet_cells.specs.sheet_text.Text.{Reading, refused, got, map_reading}
+use Rattle.sheet_cells.specs.sheet_text.Told.{told_result}
 use Rattle.sheet_cells.specs.sheet_format.declared.places.Place.{Place}
 use Rattle.sheet_cells.specs.sheet_format.Form.{ready_cell, due_cell, penalty_cell, flags_cell}
 
@@ -80,16 +78,15 @@ pub record Sizes (c first : Columns) : Type 0 where
 
 -- ---- the answers of readers that fill slices: what they were filled with, where they were
 
-abbrev pub filled : {S : Type 0} → S → Next → Reading S
-filled cells (NextAt i) = got cells i
-filled cells NextBad = refused 11
+abbrev pub filled : {S : Type 0} → S → Option ℕ → Reading S
+filled cells (Some i) = got cells i
+filled cells None = refused 11
 
 -- where a count was read it is at most so many
-abbrev pub AtMost : ℕ → Count → Type 0
-AtMost most (CountGot n i) = n ≤ most
-AtMost most (CountRefused k) = Unit
+abbrev pub AtMost : ℕ → Result (ℕ × ℕ) Refusal → Type 0
+AtMost most (Ok (n, i)) = n ≤ most
+AtMost most (Err k) = Unit
 
 -- so many places
-abbrev pub filled_places : Columns → Count → Reading Columns
-filled_places c (CountGot n i) = got (first_cells n c) i
-filled_places c (CountRefused k) = refused k
+abbrev pub filled_places : Columns → Result (ℕ × ℕ) Refusal → Reading Columns
+filled_places c r = map_reading (λ n. first_cells n c) (told_result r)

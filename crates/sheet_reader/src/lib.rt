@@ -5,6 +5,5 @@ pub mod places;
 
 // Of the crates below, passed on to those above.
 pub use sheet_cells::{
-    Count, NumberAt, SheetTextNext, byte, ending, heading, number_before, sheet_text_number,
-    stop_cell,
+    Refusal, byte, ending, heading, number_before, sheet_text_number, stop_cell,
 };

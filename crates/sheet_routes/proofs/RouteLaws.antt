@@ -9,17 +9,13 @@ use lib.Dec.{leb}
 use lib.ListN.{length, take, set}
 use Rattle.sheet_reader.specs.plan.Plan.{Plan, Slices, flat, lengths_of}
 use Rattle.sheet_reader.specs.sheet_text.Text.{Reading, refused, got, next, check, Parser, map_reading, byte, number, ending, repeat, line}
-use Rattle.sheet_reader.specs.sheet_text.Told.{told_next}
-use Rattle.sheet_reader.specs.sheet_text.declared.numbers.Next.{Next}
-use Rattle.sheet_reader.specs.sheet_text.declared.numbers.Next.TheVariants.{At as NextAt, Bad as NextBad}
-use Rattle.sheet_reader.specs.sheet_text.declared.words.Count.{Count}
-use Rattle.sheet_reader.specs.sheet_text.declared.words.Count.TheVariants.{Got as CountGot, Refused as CountRefused}
-use Rattle.sheet_reader.specs.SheetTextReadLaws.{told}
+use Rattle.std.specs.Prelude.{Result, Ok, Err}
+use Rattle.std.specs.Result.{IsErrAnd}
+use Rattle.sheet_reader.specs.sheet_text.refusal.declared.Refusal.{Refusal}
+use Rattle.sheet_routes.specs.declared.routes.PlanSize.{PlanSize}
 use Rattle.sheet_reader.specs.sheet_format.Form.{stop_cell, route_line, route_lines, slices_of}
 use Rattle.sheet_reader.specs.Cells.{front}
-use Rattle.sheet_routes.specs.declared.routes.PlanAt.{PlanAt}
-use Rattle.sheet_routes.specs.declared.routes.PlanAt.TheVariants.{Got as PlanGot, Refused as PlanRefused}
-use Rattle.sheet_routes.specs.Routes.{PlanWithin, route_behind, filled_route}
+use Rattle.sheet_routes.specs.Routes.{PlanWithin, route_behind}
 use Rattle.sheet_reader.proofs.FillLaws.{got_of, refused_of, cell_filled, next_map, map_map, map_same}
 use Rattle.sheet_reader.proofs.SectionLaws.{next_rule}
 
@@ -43,12 +39,8 @@ line_length : (k : ℕ) (s : List ℕ) (a : ℕ) (vs : List ℕ) (j : ℕ) → g
 line_length k s a vs j e = subst (Long k) (sym e) (all_long k (λ left t i. next (number t i) (λ v l. next (byte (ending left) t l) (λ u m. got v m))) s a)
 
 -- what stands behind the length is what the line asks for
-module _ (s : List ℕ) (i x m : ℕ) (r : Next) (e : x ≡ ending m) (t : told_next r ≡ byte x s i) where
-  pub gap_at : (j : ℕ) → r ≡ NextAt j → got tt j ≡ byte (ending m) s i
-  gap_at j k = told told_next k t ∙ ap (λ (y : ℕ). byte y s i) e
-
-  pub gap_bad : r ≡ NextBad → refused 11 ≡ byte (ending m) s i
-  gap_bad k = told told_next k t ∙ ap (λ (y : ℕ). byte y s i) e
+pub gap : (s : List ℕ) (i x m : ℕ) (r : Reading (Unit {0})) → x ≡ ending m → r ≡ byte x s i → r ≡ byte (ending m) s i
+gap s i x m r e t = t ∙ ap (λ (y : ℕ). byte y s i) e
 
 module _ (s : List ℕ) (at used : ℕ) (entry : List ℕ) where
   abbrev route_read : Reading (ℕ × List ℕ)
@@ -140,55 +132,50 @@ routes_more ls ss d r used k v vs o l m =
     ∙ ap (λ x. x ++ map stop_cell (flat vs)) (sym m) in
     ap (λ (x : List ℕ). slices x (take used ss ++ map stop_cell (v ++ flat vs))) a ∙ ap (λ (y : List ℕ). slices (take (r + 1) (set ls r k) ++ lengths_of vs) y) b
 
-module _ (used : ℕ) (stops : List ℕ) (h : Count) (p : Reading (ℕ × List ℕ)) (t : filled_route used stops h ≡ p) where
-  pub route_at : (k j : ℕ) → h ≡ CountGot k j → got (k, take (used + k) stops) j ≡ p
-  route_at k j e = told (filled_route used stops) e t
-
-  pub route_refused : (n : ℕ) → h ≡ CountRefused n → refused n ≡ p
-  route_refused n e = told (filled_route used stops) e t
-
 module _
     (s : List ℕ) (w : Reading Slices) (ls ss : List ℕ) (r used a left : ℕ)
     (e : w ≡ map_reading (plan_behind r ls used ss) (route_lines left (64 - used) s a))
   where
-    pub routes_end : left ≤ 0 → got (record { lengths = take r ls; stops = take used ss }) a ≡ w
+    pub routes_end : (n : ℕ) → r ≡ n → left ≤ 0 → got (record { lengths = take n ls; stops = take used ss }) a ≡ w
     unfolding route_lines flat
-    routes_end h =
+    routes_end n o h =
         let z : left ≡ 0 = omega arith in
-        rw (← append-nil (take r ls), ← append-nil (take used ss)) (sym (e ∙ ap (λ (k : ℕ). map_reading (plan_behind r ls used ss) (route_lines k (64 - used) s a)) z))
+        rw (← o, ← append-nil (take r ls), ← append-nil (take used ss)) (sym (e ∙ ap (λ (k : ℕ). map_reading (plan_behind r ls used ss) (route_lines k (64 - used) s a)) z))
 
-    module _ (h : 0 < left) where
-      more : left ≡ suc (left - 1)
-      more = omega arith
-
+    module _ (m : ℕ) (h : left ≡ suc m) where
       pub routes_fault : (n : ℕ) → refused n ≡ map_reading (route_behind used ss) (route_line (64 - used) s a) → refused n ≡ w
       unfolding route_lines
       routes_fault n g =
           let f = refused_of (route_behind used ss) (route_line (64 - used) s a) g in
-          sym (e ∙ ap (λ (k : ℕ). map_reading (plan_behind r ls used ss) (route_lines k (64 - used) s a)) more ∙ rw (← f))
+          sym (e ∙ ap (λ (k : ℕ). map_reading (plan_behind r ls used ss) (route_lines k (64 - used) s a)) h ∙ rw (← f))
 
       pub routes_turn
           : r < length ls
           → (k j : ℕ) (d : List ℕ)
           → got (k, take (used + k) d) j ≡ map_reading (route_behind used ss) (route_line (64 - used) s a)
-          → w ≡ map_reading (plan_behind (r + 1) (set ls r k) (used + k) d) (route_lines (left - 1) (64 - (used + k)) s j)
+          → w ≡ map_reading (plan_behind (r + 1) (set ls r k) (used + k) d) (route_lines m (64 - (used + k)) s j)
       unfolding route_lines flat
       routes_turn o k j d g =
           let x = got_of (route_behind used ss) (route_line (64 - used) s a) g in
           let l : k ≡ length x.0 = ap (λ p. p.0) x.2 in
-          let m : take (used + k) d ≡ take used ss ++ map stop_cell x.0 = ap (λ p. p.1) x.2 in
+          let t : take (used + k) d ≡ take used ss ++ map stop_cell x.0 = ap (λ p. p.1) x.2 in
           let y : 64 - used - length x.0 ≡ 64 - (used + k) = omega (arith, l) in
           e
-          ∙ ap (λ (i : ℕ). map_reading (plan_behind r ls used ss) (route_lines i (64 - used) s a)) more
-          ∙ ap (λ q. map_reading (plan_behind r ls used ss) (next q (λ v i. next (route_lines (left - 1) (64 - used - length v) s i) (λ vs z. got (v ∷ vs) z)))) (sym x.1)
-          ∙ ap (map_reading (plan_behind r ls used ss)) (next_map (λ vs. x.0 ∷ vs) (route_lines (left - 1) (64 - used - length x.0) s j))
-          ∙ ap (λ (i : ℕ). map_reading (plan_behind r ls used ss) (map_reading (λ vs. x.0 ∷ vs) (route_lines (left - 1) i s j))) y
-          ∙ map_map (plan_behind r ls used ss) (λ vs. x.0 ∷ vs) (route_lines (left - 1) (64 - (used + k)) s j)
-          ∙ map_same (λ vs. plan_behind r ls used ss (x.0 ∷ vs)) (plan_behind (r + 1) (set ls r k) (used + k) d) (route_lines (left - 1) (64 - (used + k)) s j)
-          (λ vs. routes_more ls ss d r used k x.0 vs o l m)
+          ∙ ap (λ (i : ℕ). map_reading (plan_behind r ls used ss) (route_lines i (64 - used) s a)) h
+          ∙ ap (λ q. map_reading (plan_behind r ls used ss) (next q (λ v i. next (route_lines m (64 - used - length v) s i) (λ vs z. got (v ∷ vs) z)))) (sym x.1)
+          ∙ ap (map_reading (plan_behind r ls used ss)) (next_map (λ vs. x.0 ∷ vs) (route_lines m (64 - used - length x.0) s j))
+          ∙ ap (λ (i : ℕ). map_reading (plan_behind r ls used ss) (map_reading (λ vs. x.0 ∷ vs) (route_lines m i s j))) y
+          ∙ map_map (plan_behind r ls used ss) (λ vs. x.0 ∷ vs) (route_lines m (64 - (used + k)) s j)
+          ∙ map_same (λ vs. plan_behind r ls used ss (x.0 ∷ vs)) (plan_behind (r + 1) (set ls r k) (used + k) d) (route_lines m (64 - (used + k)) s j)
+          (λ vs. routes_more ls ss d r used k x.0 vs o l t)
 
 -- ---- the bounds of a plan that was read
 
-pub plan_within : (n m : ℕ) (r : PlanAt) → PlanWithin n r → n ≤ m → PlanWithin m r
-plan_within n m (PlanGot k used i) w h = (omega (arith, w.0, h), w.1)
-plan_within n m (PlanRefused k) w h = tt
+pub plan_within : (n m : ℕ) (r : Result (PlanSize × ℕ) Refusal) → PlanWithin n r → n ≤ m → PlanWithin m r
+plan_within n m (Ok (p, i)) w h = (omega (arith, w.0, h), w.1)
+plan_within n m (Err k) w h = tt
+
+-- a plan that was not read is within any bound
+pub no_plan : (most : ℕ) (r : Result (PlanSize × ℕ) Refusal) (k : Refusal) → IsErrAnd r (λ y. y ≡ k) → PlanWithin most r
+no_plan most (Ok (p, i)) k e = absurd e
+no_plan most (Err x) k e = tt

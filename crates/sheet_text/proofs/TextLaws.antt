@@ -2,7 +2,7 @@
 use Prim.Native.Nat.{ℕ, zero, suc, ◌+◌, ◌-◌, ◌*◌, ◌^◌, ◌≤◌, ◌<◌}
 use mathlib.Core.Path.{◌≡◌, refl, ap, sym, ◌∙◌}
 use mathlib.Core.Bool.{Bool, true, false, ◌&&◌}
-use mathlib.Core.List.{List, [], ◌∷◌}
+use mathlib.Core.List.{List, ◌∷◌}
 use native.Mathlib.Omega.{arith}
 use native.Mathlib.Nat.{pow-suc, pow-le-pow_right, lt_of_lt_of_le}
 use native.Mathlib.Numerals.{add-one}
@@ -10,7 +10,7 @@ use lib.ListN.{length, drop, get_or, drop_of_length-le}
 use lib.Seq.{drop-cons}
 use lib.Dec.{leb}
 use borrow.Author.Tests.{le-leb, lt-leb, eq-eqb, ne_eqb}
-use Rattle.sheet_text.specs.Text.{Reading, refused, got, byte_at, is_digit, is_end, byte, word, digits, number, ending}
+use Rattle.sheet_text.specs.Text.{refused, got, byte_at, is_digit, is_end, byte, word, digits, number, ending}
 
 -- ---- bytes
 
@@ -46,15 +46,12 @@ digit_high b h =
 
 -- what the byte b at a position makes of the digits from there
 module _ (s : List ℕ) (at v k : ℕ) {b : ℕ} (e : b ≡ byte_at s at) where
-  pub digits_more : 0 < k → 48 ≤ b → b ≤ 57 → digits k v s at ≡ digits (k - 1) (v * 10 + (b - 48)) s (at + 1)
+  pub digits_more : (j : ℕ) → k ≡ suc j → 48 ≤ b → b ≤ 57 → digits k v s at ≡ digits j (v * 10 + (b - 48)) s (at + 1)
   unfolding digits
-  digits_more p l h = rw e (more k p (ap is_digit (sym e) ∙ digit_yes b l h))
+  digits_more j m l h = rw (m, e) (more (ap is_digit (sym e) ∙ digit_yes b l h))
     where
-      more : (k : ℕ) → 0 < k → is_digit (byte_at s at) ≡ true → digits k v s at ≡ digits (k - 1) (v * 10 + (byte_at s at - 48)) s (at + 1)
-      more zero q d = absurd (omega arith)
-      more (suc j) q d =
-          let m : suc j - 1 ≡ j = omega arith in
-          rw (d, m)
+      more : is_digit (byte_at s at) ≡ true → digits (suc j) v s at ≡ digits j (v * 10 + (byte_at s at - 48)) s (at + 1)
+      more d = rw d
 
   pub digits_stop : is_digit b ≡ false → digits k v s at ≡ got v at
   unfolding digits
@@ -69,11 +66,9 @@ unfolding digits
 digits_done s at v zero h = refl
 digits_done s at v (suc k) h = absurd (omega arith)
 
--- one digit more, of 9
-pub tens : (left v d : ℕ) → 0 < left → left ≤ 9 → v < 10 ^ (9 - left) → d < 10 → v * 10 + d < 10 ^ (9 - (left - 1))
-tens left v d p h lv ld =
-    let e : 9 - (left - 1) ≡ suc (9 - left) = omega arith in
-    rw (e, pow-suc) (omega arith)
+-- one digit more
+pub tens : (k v d : ℕ) → v < 10 ^ k → d < 10 → v * 10 + d < 10 ^ (k + 1)
+tens k v d lv ld = rw (add-one k, pow-suc) (omega arith)
 
 pub below : (k m v : ℕ) → k ≤ m → v < 10 ^ k → v < 10 ^ m
 below k m v h l =
@@ -112,8 +107,6 @@ count_high least most n l h = simp (le-leb least n l, lt-leb n most h)
 
 pub count_in : (least most n : ℕ) → least ≤ n → n ≤ most → (leb least n && leb n most) ≡ true
 count_in least most n l h = simp (le-leb least n l, le-leb n most h)
-
-pub ruleset count_laws = (count_low, count_high, count_in)
 
 -- ---- words
 

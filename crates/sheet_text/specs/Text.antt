@@ -1,6 +1,6 @@
 -- Reading a text by position: tokens, numbers, words and lines as the sheet has them ("The rest: bound and sheet"). Assumes nothing.
 use Rattle.std.specs.Prelude.{ℕ, zero, suc, ◌+◌, ◌-◌, ◌*◌, Bool, true, false, cond, ◌&&◌, ◌||◌, List, [], ◌∷◌, get_or, leb, eqb, ℤ, pos, neg_ℤ}
-use Rattle.std.proofs.Math.Option.{Option, none, some}
+use Rattle.std.specs.Prelude.{Option, None, Some}
 use Prim.Native.String.{String, [] as ε, ◌∷◌ as ◌◁◌}
 use Prim.Native.Char.{code}
 
@@ -133,10 +133,10 @@ optional =
     (do
       byte minus
       look is_end
-      pure none)
+      pure None)
     (do
       v ← number
-      pure (some v))
+      pure (Some v))
 
 -- ---- lines
 

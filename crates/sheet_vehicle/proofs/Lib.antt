@@ -1,2 +1,2 @@
--- what an answer of this crate's readers says of a reading
+-- a vehicle that is handed on
 pub mod VehicleLaws

@@ -1,5 +1,3 @@
--- what the answers of the code mean
-pub mod Told
 -- crates below, passed on to those above
 pub use Rattle.sheet_format.specs.models as models
 pub use Rattle.sheet_format.specs.sheet_text as sheet_text

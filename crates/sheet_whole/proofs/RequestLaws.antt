@@ -1,4 +1,9 @@
 -- The last three sections, one after the other. Assumes nothing.
+use Rattle.std.specs.Prelude.{Result, Ok, Err}
+use Rattle.std.specs.Result.{IsErrAnd}
+use Rattle.sheet_draws.specs.sheet_text.refusal.declared.Refusal.{Refusal}
+use Rattle.sheet_whole.specs.declared.parts.Request.{Request as RequestRead}
+use Rattle.sheet_whole.specs.Request.{RequestWithin}
 use Prim.Native.Nat.{ℕ}
 use mathlib.Core.Path.{◌≡◌, ap, ◌∙◌}
 use mathlib.Core.List.{List}
@@ -40,3 +45,8 @@ module _ (s : List ℕ) (at : ℕ) where
       request_got r e el =
           let x = got_of slices_of (routes s j) er in
           ap (λ (z : Slices). got (request_of tape z r) e) x.2 ∙ all_read tape j x.0 l r e ed x.1 el
+
+-- a request that was not read is within any bound
+pub no_request_within : (r : Result (RequestRead × ℕ) Refusal) (k : Refusal) → IsErrAnd r (λ y. y ≡ k) → RequestWithin r
+no_request_within (Ok (x, i)) k e = absurd e
+no_request_within (Err x) k e = tt

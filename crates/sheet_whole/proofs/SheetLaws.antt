@@ -1,12 +1,17 @@
 -- The problem of a sheet and its request, one after the other. Assumes nothing.
+use Rattle.std.specs.Prelude.{Result, Ok, Err}
+use Rattle.std.specs.Result.{IsErrAnd}
+use Rattle.sheet_draws.specs.sheet_text.refusal.declared.Refusal.{Refusal}
+use Rattle.sheet_whole.specs.declared.parts.Sheet.{Sheet as SheetRead}
+use Rattle.sheet_whole.specs.Whole.{SheetWithin}
 use Prim.Native.Nat.{ℕ, ◌≤◌}
-use mathlib.Core.Path.{◌≡◌, refl, ap, sym, ◌∙◌}
+use mathlib.Core.Path.{◌≡◌, refl, sym, ◌∙◌}
 use mathlib.Core.List.{List}
 use lib.ListN.{length}
 use Rattle.sheet_draws.specs.models.Problem.{Problem}
 use Rattle.sheet_draws.specs.sheet_text.Text.{Reading, refused, got, next}
 use Rattle.sheet_draws.specs.SheetTextReadLaws.{next_got, next_refused}
-use Rattle.sheet_draws.specs.sheet_format.Form.{Sheet, Run, whole_problem, draws, routes, last_run, slices_of, sections, sheet}
+use Rattle.sheet_draws.specs.sheet_format.Form.{Sheet, whole_problem, draws, routes, last_run, slices_of, sections, sheet}
 use Rattle.sheet_draws.specs.sheet_format.Faults.{not_too_long}
 use Rattle.sheet_whole.specs.Request.{Request, request_of, request}
 
@@ -57,3 +62,8 @@ module _ (s : List ℕ) (short : length s ≤ 60000) where
 
     pub sheet_got : (q : Request) (l : ℕ) → got q l ≡ request s i → got (sheet_of p q) l ≡ sheet s 0
     sheet_got q l e = next_got (request s i) (λ q l. got (sheet_of p q) l) q l (got (sheet_of p q) l) e refl ∙ sym (sections_by s 0 p i ep) ∙ sheet_is
+
+-- a sheet that was not read is within any bound
+pub no_sheet_within : (r : Result (SheetRead × ℕ) Refusal) (k : Refusal) → IsErrAnd r (λ y. y ≡ k) → SheetWithin r
+no_sheet_within (Ok (x, i)) k e = absurd e
+no_sheet_within (Err x) k e = tt

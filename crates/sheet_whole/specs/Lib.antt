@@ -5,5 +5,4 @@ pub mod Whole
 -- crates below, passed on to those above
 pub use Rattle.sheet_draws.specs.sheet_reader as sheet_reader
 -- and their laws
-pub use Rattle.sheet_draws.specs.SheetTextReadLaws as SheetTextReadLaws
 pub use Rattle.sheet_problem.proofs.ProblemLaws as SheetProblemProblemLaws

@@ -1,12 +1,13 @@
 -- What the answer of the reader of a sheet means, with what the slices hold after it. Assumes nothing.
-use Rattle.std.specs.Prelude.{ℕ, ◌≤◌, List, take, Float}
-use Rattle.sheet_draws.specs.sheet_text.Text.{Reading, refused, got}
+use Rattle.std.specs.Prelude.{ℕ, ◌≤◌, List, take, Float, Result, Ok, Err}
+use Rattle.sheet_draws.specs.sheet_text.refusal.declared.Refusal.{Refusal}
+use Rattle.sheet_draws.specs.sheet_text.Text.{Reading, map_reading}
+use Rattle.sheet_draws.specs.sheet_text.Told.{told_result}
 use Rattle.sheet_draws.specs.sheet_format.Form.{Sheet}
 use Rattle.sheet_draws.specs.sheet_reader.Cells.{Columns}
 use Rattle.sheet_problem.specs.declared.Head.{Head}
 use Rattle.sheet_problem.specs.Told.{problem_in}
-use Rattle.sheet_whole.specs.declared.sheet.SheetAt.{SheetAt}
-use Rattle.sheet_whole.specs.declared.sheet.SheetAt.TheVariants.{Got as SheetGot, Refused as SheetRefused}
+use Rattle.sheet_whole.specs.declared.parts.Sheet.{Sheet as SheetRead}
 
 -- the sheet that the slices hold
 abbrev pub sheet_in : List ℕ → List ℕ → List ℕ → Columns → List Float → List Float → Head → (draws routes used limit clock : ℕ) → Sheet
@@ -18,12 +19,13 @@ sheet_in lengths stops tape c distances times h draws routes used limit clock =
       run = record { limit = limit; clock = clock };
     }
 
-abbrev pub told_sheet : List ℕ → List ℕ → List ℕ → Columns → List Float → List Float → SheetAt → Reading Sheet
-told_sheet lengths stops tape c distances times (SheetGot h draws routes used limit clock i) =
-    got (sheet_in lengths stops tape c distances times h draws routes used limit clock) i
-told_sheet lengths stops tape c distances times (SheetRefused k) = refused k
+abbrev pub told_sheet : List ℕ → List ℕ → List ℕ → Columns → List Float → List Float → Result (SheetRead × ℕ) Refusal → Reading Sheet
+told_sheet lengths stops tape c distances times r =
+    map_reading
+    (λ x. sheet_in lengths stops tape c distances times x.head x.request.draws x.request.given x.request.used x.request.limit x.request.clock)
+    (told_result r)
 
 -- where a sheet was read, what it holds fits its slices
-abbrev pub SheetWithin : SheetAt → Type 0
-SheetWithin (SheetGot h draws routes used limit clock i) = (h.n ≤ 64) × (h.timed ≤ h.n) × (draws ≤ 1024) × (routes ≤ 64) × (used ≤ 64)
-SheetWithin (SheetRefused k) = Unit
+abbrev pub SheetWithin : Result (SheetRead × ℕ) Refusal → Type 0
+SheetWithin (Ok (x, i)) = (x.head.n ≤ 64) × (x.head.timed ≤ x.head.n) × (x.request.draws ≤ 1024) × (x.request.given ≤ 64) × (x.request.used ≤ 64)
+SheetWithin (Err k) = Unit

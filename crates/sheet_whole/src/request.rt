@@ -2,16 +2,11 @@
 ghost use Rattle.std.specs.Prelude.{◌≡◌, ◌≤◌, length};
 ghost use Rattle.sheet_whole.specs.Request.{request as Request·request, told_request, RequestWithin};
 
-use sheet_draws::{Count, draws};
-use sheet_routes::routes::{PlanAt, routes};
-use sheet_run::{RunAt, last_run};
-
-// How many draws, routes and stops there are, M, K, and the position after the sheet; or the number of a refusal.
-#[derive(Clone, Copy)]
-pub enum RequestAt {
-    Got(usize, usize, usize, usize, u64, usize),
-    Refused(u8),
-}
+use crate::parts::Request;
+use sheet_draws::draws;
+use sheet_problem::Refusal;
+use sheet_routes::routes::routes;
+use sheet_run::last_run;
 
 // The sections of the request, into the slices.
 pub fn request(
@@ -20,28 +15,20 @@ pub fn request(
     tape: &mut [u64],
     s: &[u8],
     at: usize,
-) -> RequestAt
+) -> Result<(Request, usize), Refusal>
     requires { (64 ≤ length lengths.old) × (64 ≤ length stops.old) × (1024 ≤ length tape.old) }
     ensures result_after { told_request lengths.new stops.new tape.new result ≡ Request·request s.now at }
     ensures request_within { RequestWithin result }
 {
-    let d = draws(tape, s, at);
-    match d {
-        Count::Refused(k) => RequestAt::Refused(k),
-        Count::Got(drawn, j) => {
-            let q = routes(lengths, stops, s, j);
-            match q {
-                PlanAt::Refused(k) => RequestAt::Refused(k),
-                PlanAt::Got(given, used, l) => {
-                    let r = last_run(s, l);
-                    match r {
-                        RunAt::Refused(k) => RequestAt::Refused(k),
-                        RunAt::Got(limit, clock, e) => {
-                            RequestAt::Got(drawn, given, used, limit, clock, e)
-                        }
-                    }
-                }
-            }
-        }
-    }
+    let (drawn, j) = draws(tape, s, at)?;
+    let (plan, l) = routes(lengths, stops, s, j)?;
+    let (run, e) = last_run(s, l)?;
+    let request = Request {
+        draws: drawn,
+        given: plan.given,
+        used: plan.used,
+        limit: run.limit,
+        clock: run.clock,
+    };
+    Ok((request, e))
 }

@@ -4,15 +4,12 @@ ghost use Rattle.sheet_draws.specs.sheet_format.Form.{sheet as Form·sheet};
 ghost use Rattle.sheet_draws.specs.sheet_reader.Cells.{columns_of, Room};
 ghost use Rattle.sheet_whole.specs.Whole.{told_sheet, SheetWithin};
 
-use crate::request::{RequestAt, request};
-use sheet_problem::{Head, ProblemAt, problem};
+use crate::parts::Sheet;
+use crate::request::request;
+use sheet_problem::{Refusal, problem};
 
-// The head of the problem, how many draws, routes and stops there are, M, K, and the position after the sheet; or the number of a refusal.
-#[derive(Clone, Copy)]
-pub enum SheetAt {
-    Got(Head, usize, usize, usize, usize, u64, usize),
-    Refused(u8),
-}
+// How many bytes a sheet may have.
+const MOST_BYTES: usize = 60000;
 
 // A sheet of at most 60,000 bytes, read front to back to its first fault, into the slices.
 pub fn sheet(
@@ -28,29 +25,19 @@ pub fn sheet(
     distances: &mut [f64],
     times: &mut [f64],
     s: &[u8],
-) -> SheetAt
+) -> Result<(Sheet, usize), Refusal>
     requires in_bounds { (64 ≤ length lengths.old) × (64 ≤ length stops.old) × (1024 ≤ length tape.old) }
     requires room { Room 64 (columns_of demand.old service.old ready.old due.old penalty.old flags.old) }
     requires in_bounds_2 { (4096 ≤ length distances.old) × (4096 ≤ length times.old) }
     ensures result_after { told_sheet lengths.new stops.new tape.new (columns_of demand.new service.new ready.new due.new penalty.new flags.new) distances.new times.new result ≡ Form·sheet s.now 0 }
     ensures sheet_within { SheetWithin result }
 {
-    if s.len() > 60000 {
-        return SheetAt::Refused(10);
+    if s.len() > MOST_BYTES {
+        return Err(Refusal::SheetLength);
     }
-    let p = problem(
+    let (head, i) = problem(
         demand, service, ready, due, penalty, flags, distances, times, s, 0,
-    );
-    match p {
-        ProblemAt::Refused(k) => SheetAt::Refused(k),
-        ProblemAt::Got(head, i) => {
-            let q = request(lengths, stops, tape, s, i);
-            match q {
-                RequestAt::Refused(k) => SheetAt::Refused(k),
-                RequestAt::Got(drawn, given, used, limit, clock, e) => SheetAt::Got(
-                    head, drawn, given, used, limit, clock, e,
-                ),
-            }
-        }
-    }
+    )?;
+    let (request, e) = request(lengths, stops, tape, s, i)?;
+    Ok((Sheet { head, request }, e))
 }

@@ -25,7 +25,6 @@ or_false true = refl
 or_false false = refl
 
 any_more : (x c : ℕ) (stops : List ℕ) → any (eqb x) (stops ++ c ∷ []) ≡ (any (eqb x) stops || eqb x c)
-unfolding any
 any_more x c [] = or_false (eqb x c)
 any_more x c (y ∷ stops) = go (eqb x y) (any_more x c stops)
   where
@@ -96,7 +95,7 @@ marks_unless seen stops e = absurd (false≢true e)
 -- ---- the stops in order
 
 pub marks_start : Marks (replicate 256 0) []
-unfolding any one_if
+unfolding one_if
 marks_start = record { cells = length-replicate {A = ℕ} 256 0; each = λ x h. get_or-replicate {A = ℕ} 256 x 0 0 h }
 
 pub marks_more : (seen stops : List ℕ) (i : ℕ) (v : Bool) → (v ≡ true → Marks seen (take i stops ++ get_or stops i 0 ∷ [])) → v ≡ true → i < length stops

@@ -11,7 +11,7 @@ use length_checks::Vehicle;
 
 // Of the crates below, passed on to those above.
 pub use length_checks::{
-    Eval, RouteEval, Taken, bad_lengths, break_schedule_schedule, evaluation_check,
+    Refusal, RouteEval, bad_lengths, break_schedule_schedule, evaluation_check,
     route_cost_gain_floor, route_cost_route_distance,
 };
 
@@ -19,14 +19,7 @@ pub use length_checks::{
 fn contains(stops: &[u16], x: u16) -> bool
     ensures { result ≡ any (eqb x) stops.now }
 {
-    let mut i = 0;
-    while i < stops.len() {
-        if x == stops[i] {
-            return true;
-        }
-        i += 1;
-    }
-    false
+    stops.iter().any(|stop| x == *stop)
 }
 
 // Whether c is none of the stops before it, which are marked in a cell for each place; c is then marked too. A number from 256 on has no cell
@@ -37,14 +30,14 @@ fn mark_new(seen: &mut [u8], before: &[u16], c: u16) -> bool
     ensures marks { Marks seen.new (before.now ++ c ∷ []) }
 {
     let at = c as usize;
-    if at < 256 {
-        if seen[at] == 0 {
-            seen[at] = 1;
-            return true;
-        }
+    if at >= 256 {
+        return !contains(before, c);
+    }
+    if seen[at] != 0 {
         return false;
     }
-    !contains(before, c)
+    seen[at] = 1;
+    true
 }
 
 // Whether c is a place, not the depot, and none of the stops before it, which are marked; if so c is marked too.
@@ -53,13 +46,10 @@ fn stop_passes(seen: &mut [u8], n: usize, vehicle: Vehicle, before: &[u16], c: u
     ensures value { result ≡ stop_passes (of_distances n [] vehicle) before.now c }
     ensures marks { result ≡ true → Marks seen.new (before.now ++ c ∷ []) }
 {
-    if (c as usize) < n {
-        if c as usize == vehicle.depot_id {
-            return false;
-        }
-        return mark_new(seen, before, c);
+    if c as usize >= n || c as usize == vehicle.depot_id {
+        return false;
     }
-    false
+    mark_new(seen, before, c)
 }
 
 // Whether row 6 lets the stops pass. Of n places at most n stops pass, so the loop ends after n + 1 of them at the latest.
@@ -67,12 +57,10 @@ pub fn stops_pass(n: usize, vehicle: Vehicle, stops: &[u16]) -> bool
     ensures { result ≡ stops_pass (of_distances n [] vehicle) stops.now }
 {
     let mut seen = [0u8; 256];
-    let mut i = 0;
-    while i < stops.len() {
+    for i in 0..stops.len() {
         if !stop_passes(&mut seen, n, vehicle, &stops[..i], stops[i]) {
             return false;
         }
-        i += 1;
     }
     true
 }

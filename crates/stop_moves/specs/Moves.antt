@@ -5,7 +5,7 @@ use native.Mathlib.Omega.{arith}
 use Rattle.std.proofs.Math.Path.{refl, ap}
 use Rattle.std.proofs.Common.{sym, ◌∙◌, subst}
 use mathlib.Core.List.{List, [], ◌∷◌}
-use Rattle.std.proofs.Math.Option.{Option, none, some}
+use Rattle.std.specs.Prelude.{Option, None, Some}
 use Rattle.std.specs.Float.Ieee.{le}
 use Rattle.reinsertion.specs.floats.Binary64.{◌⊕◌}
 use Rattle.reinsertion.specs.laws.Loops.{loop_rule, cond_rule, foldl}
@@ -15,8 +15,6 @@ use Rattle.reinsertion.specs.plan.Plan.{Plan, route, split, total, Lent, HasPosi
 use Rattle.reinsertion.specs.local_search.Options.{bind, then_some, Each}
 use Rattle.reinsertion.specs.route_cost.declared.Insertion.{Insertion}
 use Rattle.reinsertion.specs.route_load.Feasible.{constrained, has_room}
-use Rattle.stop_moves.specs.declared.Sum.{Sum}
-use Rattle.stop_moves.specs.declared.Sum.TheVariants.{Nothing, At}
 use Rattle.reinsertion.specs.reinsertion_worth.Worth.{soft, insertion_worth}
 use Rattle.reinsertion.specs.reinsertion_candidates.Candidates.{candidates, by_cost, first_passing}
 use Rattle.elimination_moves.specs.Eliminate.{Moved, move_to, move_stop}
@@ -28,20 +26,20 @@ abbrev pub so_far : Plan → Float → Moved
 so_far rest added = record { rest = rest; added = added }
 
 -- both, as the code keeps them; none once a stop has no place
-abbrev pub held_by : Sum → Plan → Option Moved
-held_by Nothing rest = none
-held_by (At added) rest = some (so_far rest added)
+abbrev pub held_by : Option Float → Plan → Option Moved
+held_by None rest = None
+held_by (Some added) rest = Some (so_far rest added)
 
 -- the rest of the loop `for c in moving`
 unfoldable pub move_on : Problem → Float → Option Moved → List ℕ → Option Moved
 move_on p saved m stops = foldl (λ m c. bind m (λ n. move_stop p saved n c)) m stops
 
 module _ (p : Problem) (saved : Float) where
-  pub move_on_more : (m : Moved) (c : ℕ) (stops : List ℕ) → move_on p saved (some m) (c ∷ stops) ≡ move_on p saved (move_stop p saved m c) stops
+  pub move_on_more : (m : Moved) (c : ℕ) (stops : List ℕ) → move_on p saved (Some m) (c ∷ stops) ≡ move_on p saved (move_stop p saved m c) stops
   unfolding move_on foldl bind
   move_on_more m c stops = refl
 
-  pub move_on_none : (stops : List ℕ) → move_on p saved none stops ≡ none
+  pub move_on_none : (stops : List ℕ) → move_on p saved None stops ≡ None
   unfolding move_on foldl bind
   move_on_none [] = refl
   move_on_none (c ∷ stops) = move_on_none stops
@@ -68,9 +66,9 @@ pub record Grown (n k : ℕ) (lengths stops : List ℕ) : Type 0 where
   pub routes : All (Stops n) (split lengths stops)
 
 -- so they are left where each stop has found a place
-abbrev pub Kept : ℕ → Sum → ℕ → List ℕ → List ℕ → Type 0
-Kept n Nothing k lengths stops = Unit
-Kept n (At added) k lengths stops = Grown n k lengths stops
+abbrev pub Kept : ℕ → Option Float → ℕ → List ℕ → List ℕ → Type 0
+Kept n None k lengths stops = Unit
+Kept n (Some added) k lengths stops = Grown n k lengths stops
 
 -- ---- the place found
 
@@ -95,10 +93,10 @@ module _ (p : Problem) (rest : Plan) (c : ℕ) (added saved : Float) where
 
   uncut_inside : (o : Option Insertion) → Inside o → Inside (unless_cut added saved o)
   unfolding unless_cut
-  uncut_inside none h = tt
-  uncut_inside (some x) h = cond_rule Inside (le saved (added ⊕ x.cost)) {x = none} {y = some x} (λ _. tt) (λ _. h)
+  uncut_inside None h = tt
+  uncut_inside (Some x) h = cond_rule Inside (le saved (added ⊕ x.cost)) {x = None} {y = Some x} (λ _. tt) (λ _. h)
 
-  pub place_inside : (x : Insertion) → some x ≡ first_passing p rest c added saved (by_cost (candidates p c rest)) → HasPosition rest x.route x.pos
+  pub place_inside : (x : Insertion) → Some x ≡ first_passing p rest c added saved (by_cost (candidates p c rest)) → HasPosition rest x.route x.pos
   place_inside x e = subst Inside (place_is p rest c added saved ∙ sym e) (uncut_inside (look_over p c added saved rest) over_inside)
 
   -- and it does not reach the cut
@@ -107,22 +105,22 @@ module _ (p : Problem) (rest : Plan) (c : ℕ) (added saved : Float) where
 
   below : (o : Option Insertion) → Below (unless_cut added saved o)
   unfolding unless_cut
-  below none = tt
-  below (some x) = cond_rule Below (le saved (added ⊕ x.cost)) {x = none} {y = some x} (λ _. tt) (λ e. e)
+  below None = tt
+  below (Some x) = cond_rule Below (le saved (added ⊕ x.cost)) {x = None} {y = Some x} (λ _. tt) (λ e. e)
 
-  pub place_below : (x : Insertion) → some x ≡ first_passing p rest c added saved (by_cost (candidates p c rest)) → le saved (added ⊕ x.cost) ≡ false
+  pub place_below : (x : Insertion) → Some x ≡ first_passing p rest c added saved (by_cost (candidates p c rest)) → le saved (added ⊕ x.cost) ≡ false
   place_below x e = subst Below (place_is p rest c added saved ∙ sym e) (below (look_over p c added saved rest))
 
   -- c has no place; it goes to the place found
-  pub move_nowhere : none ≡ first_passing p rest c added saved (by_cost (candidates p c rest)) → none ≡ move_stop p saved (so_far rest added) c
+  pub move_nowhere : None ≡ first_passing p rest c added saved (by_cost (candidates p c rest)) → None ≡ move_stop p saved (so_far rest added) c
   unfolding move_stop bind
   move_nowhere e = ap (λ (o : Option Insertion). bind o (move_to saved c (so_far rest added))) e
 
-  pub move_there : (x : Insertion) → some x ≡ first_passing p rest c added saved (by_cost (candidates p c rest))
-      → some (record { rest = put_in x.route x.pos c rest; added = added ⊕ x.cost }) ≡ move_stop p saved (so_far rest added) c
+  pub move_there : (x : Insertion) → Some x ≡ first_passing p rest c added saved (by_cost (candidates p c rest))
+      → Some (record { rest = put_in x.route x.pos c rest; added = added ⊕ x.cost }) ≡ move_stop p saved (so_far rest added) c
   move_there x e = there ∙ ap (λ (o : Option Insertion). bind o (move_to saved c (so_far rest added))) e ∙ whole
     where
-      there : some (record { rest = put_in x.route x.pos c rest; added = added ⊕ x.cost }) ≡ bind (some x) (move_to saved c (so_far rest added))
+      there : Some (record { rest = put_in x.route x.pos c rest; added = added ⊕ x.cost }) ≡ bind (Some x) (move_to saved c (so_far rest added))
       there = unfold bind move_to then_some in rw (place_below x e)
 
       whole : bind (first_passing p rest c added saved (by_cost (candidates p c rest))) (move_to saved c (so_far rest added)) ≡ move_stop p saved (so_far rest added) c

@@ -8,7 +8,7 @@ ghost use Rattle.elimination_moves.specs.Eliminate.{move_stop};
 ghost use Rattle.reinsertion.specs.reinsertion_candidates.Asked.{Asked, Room};
 ghost use Rattle.stop_moves.specs.Moves.{so_far, held_by, Kept};
 
-use reinsertion::{RouteCostBest as Best, place, put_in};
+use reinsertion::{place, put_in};
 
 // Of the crates below, passed on to those above.
 pub use elimination_moves::take_largest;
@@ -17,14 +17,7 @@ pub use reinsertion::{
     is_finite, next_pick, route_cost_gain_floor, worth,
 };
 
-// What was added to the worth of the other routes, or nothing once a stop has no place.
-#[derive(Clone, Copy)]
-pub enum Sum {
-    Nothing,
-    At(f64),
-}
-
-// The stop goes to its place. The plan is as it was where it has none.
+// The stop goes to its place. What was then added to the worth of the other routes; none where it has no place, and the plan is as it was.
 pub fn move_stop(
     lengths: &mut [u16],
     stops: &mut [u16],
@@ -39,20 +32,17 @@ pub fn move_stop(
     due: &[f64],
     penalty: &[f64],
     flags: &[u8],
-) -> Sum
+) -> Option<f64>
     requires { Asked (problem n demand.now service.now ready.now due.now penalty.now flags.now distances.now times.now vehicle) stop × Room n lengths.old stops.old
         × (total lengths.old < length stops.old) }
     ensures moved { held_by result (split lengths.new stops.new) ≡ move_stop (problem n demand.now service.now ready.now due.now penalty.now flags.now
         distances.now times.now vehicle) stop.saved (so_far (split lengths.old stops.old) stop.added) stop.c }
     ensures kept { Kept n result (total lengths.old + 1) lengths.new stops.new }
 {
-    let best = place(
+    let found = place(
         lengths, stops, stop, vehicle, demand, n, distances, times, service, ready, due, penalty,
         flags,
-    );
-    let Best::At(found) = best else {
-        return Sum::Nothing;
-    };
+    )?;
     put_in(lengths, stops, found.route, found.pos, stop.c as u16);
-    Sum::At(stop.added + found.cost)
+    Some(stop.added + found.cost)
 }

@@ -1,18 +1,13 @@
 -- Answers and plans as they are stored, and whether two are the same. Assumes nothing.
-use Rattle.std.specs.Prelude.{ℕ, List, [], ◌∷◌, Bool, true, false, cond, ◌&&◌, eqb, Float}
+use Rattle.std.specs.Prelude.{ℕ, List, [], ◌∷◌, Bool, true, false, cond, ◌&&◌, eqb, Float, Option, Some, None}
 use Rattle.std.specs.Float.{binary64}
 use Rattle.std.specs.Float.Ieee.{to_bits}
-use Rattle.planner_questions.specs.models.declared.customer.Window.{Window}
-use Rattle.planner_questions.specs.models.declared.customer.Window.TheVariants.{None as NoWindow, Is}
-use Rattle.planner_questions.specs.break_clock.declared.route_eval.Eval.{Eval}
-use Rattle.planner_questions.specs.break_clock.declared.route_eval.Eval.TheVariants.{Infeasible, Feasible}
 use Rattle.planner_questions.specs.break_clock.declared.route_eval.RouteEval.{RouteEval}
-use Rattle.planner_questions.specs.labels.declared.Taken.{Taken}
-use Rattle.planner_questions.specs.labels.declared.Taken.TheVariants.{No, At}
 use Rattle.planner_questions.specs.plan.Plan.{Slices}
 use Rattle.planner_questions.specs.local_search.declared.rounds.Reduction.{Reduction}
 use Rattle.planner_questions.specs.planner.Calls.{Answer, refused, answered}
 use Rattle.stored_answers.specs.declared.Stored.{Stored}
+use Rattle.planner_questions.specs.models.declared.customer.TimeWindow.{TimeWindow}
 
 -- a tag and six numbers
 abbrev pub stored : ℕ → ℕ → ℕ → ℕ → ℕ → ℕ → ℕ → Stored
@@ -37,24 +32,24 @@ number_stored (refused n) = refusal_stored n
 number_stored (answered x) = stored 1 (bits x) 0 0 0 0 0
 
 -- an evaluation without a break, tag 2, or with one, tag 3
-abbrev pub route_stored : RouteEval → Taken → Stored
-route_stored e No = stored 2 (bits e.distance) (bits e.duration) (bits e.lateness) (bits e.lateness_cost) 0 0
-route_stored e (At i start) = stored 3 (bits e.distance) (bits e.duration) (bits e.lateness) (bits e.lateness_cost) i (bits start)
+abbrev pub route_stored : RouteEval → Option (ℕ × Float) → Stored
+route_stored e None = stored 2 (bits e.distance) (bits e.duration) (bits e.lateness) (bits e.lateness_cost) 0 0
+route_stored e (Some (i, start)) = stored 3 (bits e.distance) (bits e.duration) (bits e.lateness) (bits e.lateness_cost) i (bits start)
 
 -- not feasible is tag 1
-abbrev pub eval_stored : Eval → Stored
-eval_stored Infeasible = stored 1 0 0 0 0 0 0
-eval_stored (Feasible e) = route_stored e e.rest
+abbrev pub eval_stored : Option RouteEval → Stored
+eval_stored None = stored 1 0 0 0 0 0 0
+eval_stored (Some e) = route_stored e e.rest
 
 -- `route_eval` and `schedule`
-abbrev pub evaluated_stored : Answer Eval → Stored
+abbrev pub evaluated_stored : Answer (Option RouteEval) → Stored
 evaluated_stored (refused n) = refusal_stored n
 evaluated_stored (answered e) = eval_stored e
 
 -- `TimeWindow::new`: no window is tag 1, a window tag 2
-abbrev pub window_stored : Window → Stored
-window_stored NoWindow = stored 1 0 0 0 0 0 0
-window_stored (Is w) = stored 2 (bits w.ready) (bits w.due) 0 0 0 0
+abbrev pub window_stored : Option TimeWindow → Stored
+window_stored None = stored 1 0 0 0 0 0 0
+window_stored (Some w) = stored 2 (bits w.ready) (bits w.due) 0 0 0 0
 
 -- "A call returns r"; "Results carry steps and draws."
 abbrev pub reply_stored : Answer Reduction → Stored

@@ -2,11 +2,11 @@
 #![tactic(auto)]
 
 ghost use Rattle.std.specs.Prelude.{◌≡◌};
-ghost use Rattle.planner_questions.specs.planner.Told.{replied_told};
-ghost use Rattle.planner_questions.specs.Told.{checked_told, evaluated_told, number_told};
+ghost use Rattle.planner_questions.specs.planner.Told.{told};
+ghost use Rattle.planner_questions.specs.entry.refusal.Number.{number};
 ghost use Rattle.stored_answers.specs.Answers.{stored, refusal_stored, checked_stored, number_stored, route_stored, eval_stored, evaluated_stored, window_stored, reply_stored};
 
-use planner_questions::{Checked, Eval, Evaluated, Number, Replied, RouteEval, Taken, Window};
+use planner_questions::{Reduction, Refusal, RouteEval, TimeWindow};
 use stored_values::bits_of;
 
 // An answer as seven numbers: a tag, which is 0 for a refusal, and what an answer with that tag holds, floats by their bits. What it lacks is 0.
@@ -37,38 +37,38 @@ fn short(tag: u64, a: u64, b: u64, c: u64) -> Stored
 }
 
 // The number of a refusal.
-fn of_refusal(row: u8) -> Stored
-    ensures { result ≡ refusal_stored row }
+fn of_refusal(refusal: Refusal) -> Stored
+    ensures { result ≡ refusal_stored (number refusal) }
 {
-    short(0, row as u64, 0, 0)
+    short(0, refusal.number() as u64, 0, 0)
 }
 
-pub fn of_checked(answer: Checked) -> Stored
-    ensures { result ≡ checked_stored (checked_told answer) }
+pub fn of_checked(answer: Result<bool, Refusal>) -> Stored
+    ensures { result ≡ checked_stored (told answer) }
 {
     match answer {
-        Checked::Refused(row) => of_refusal(row),
-        Checked::Answered(passes) => {
+        Ok(passes) => {
             if passes {
                 short(1, 1, 0, 0)
             } else {
                 short(1, 0, 0, 0)
             }
         }
+        Err(refusal) => of_refusal(refusal),
     }
 }
 
-pub fn of_number(answer: Number) -> Stored
-    ensures { result ≡ number_stored (number_told answer) }
+pub fn of_number(answer: Result<f64, Refusal>) -> Stored
+    ensures { result ≡ number_stored (told answer) }
 {
     match answer {
-        Number::Refused(row) => of_refusal(row),
-        Number::Answered(x) => short(1, bits_of(x), 0, 0),
+        Ok(x) => short(1, bits_of(x), 0, 0),
+        Err(refusal) => of_refusal(refusal),
     }
 }
 
 // An evaluation with a break or without.
-fn of_route(worth: RouteEval, rest: Taken) -> Stored
+fn of_route(worth: RouteEval, rest: Option<(usize, f64)>) -> Stored
     ensures { result ≡ route_stored worth rest }
 {
     let distance = bits_of(worth.distance);
@@ -76,7 +76,7 @@ fn of_route(worth: RouteEval, rest: Taken) -> Stored
     let lateness = bits_of(worth.lateness);
     let cost = bits_of(worth.lateness_cost);
     match rest {
-        Taken::No => Stored {
+        None => Stored {
             tag: 2,
             a: distance,
             b: duration,
@@ -85,7 +85,7 @@ fn of_route(worth: RouteEval, rest: Taken) -> Stored
             e: 0,
             f: 0,
         },
-        Taken::At(stop, start) => Stored {
+        Some((stop, start)) => Stored {
             tag: 3,
             a: distance,
             b: duration,
@@ -97,44 +97,44 @@ fn of_route(worth: RouteEval, rest: Taken) -> Stored
     }
 }
 
-fn of_eval(eval: Eval) -> Stored
+fn of_eval(eval: Option<RouteEval>) -> Stored
     ensures { result ≡ eval_stored eval }
 {
     match eval {
-        Eval::Infeasible => short(1, 0, 0, 0),
-        Eval::Feasible(worth) => {
+        None => short(1, 0, 0, 0),
+        Some(worth) => {
             let rest = worth.rest;
             of_route(worth, rest)
         }
     }
 }
 
-pub fn of_evaluated(answer: Evaluated) -> Stored
-    ensures { result ≡ evaluated_stored (evaluated_told answer) }
+pub fn of_evaluated(answer: Result<Option<RouteEval>, Refusal>) -> Stored
+    ensures { result ≡ evaluated_stored (told answer) }
 {
     match answer {
-        Evaluated::Refused(row) => of_refusal(row),
-        Evaluated::Answered(eval) => of_eval(eval),
+        Ok(eval) => of_eval(eval),
+        Err(refusal) => of_refusal(refusal),
     }
 }
 
-pub fn of_window(window: Window) -> Stored
+pub fn of_window(window: Option<TimeWindow>) -> Stored
     ensures { result ≡ window_stored window }
 {
     match window {
-        Window::None => short(1, 0, 0, 0),
-        Window::Is(w) => short(2, bits_of(w.ready), bits_of(w.due), 0),
+        None => short(1, 0, 0, 0),
+        Some(w) => short(2, bits_of(w.ready), bits_of(w.due), 0),
     }
 }
 
-pub fn of_replied(answer: Replied) -> Stored
-    ensures { result ≡ reply_stored (replied_told answer) }
+pub fn of_replied(answer: Result<Reduction, Refusal>) -> Stored
+    ensures { result ≡ reply_stored (told answer) }
 {
     match answer {
-        Replied::Refused(row) => of_refusal(row),
-        Replied::Answered(done) => {
+        Ok(done) => {
             let counts = done.counts;
             short(1, done.routes as u64, counts.steps, counts.draws)
         }
+        Err(refusal) => of_refusal(refusal),
     }
 }

@@ -8,17 +8,14 @@ ghost use Rattle.route_checks.specs.models.Problem.{matrix, Fit, Stops};
 ghost use Rattle.route_checks.specs.break_clock.Schedule.{ride_all, set_out as ride-out};
 ghost use Rattle.route_checks.specs.evaluation.Check.{reach_all, set_out, route_feasible};
 
-use route_checks::{
-    Reached, Ridden, Riding, Way, home_allowed, is_feasible, reach, reach_all, ride_all, ride_home,
-};
+use route_checks::{Riding, Way, home_allowed, is_feasible, reach, reach_all, ride_all, ride_home};
 
 // Of the crates below, passed on to those above.
 pub use route_checks::{
-    Customer, Eval, Left, Penalty, Rest, RouteEval, RouteLimits, Served, Taken, Vehicle,
-    VehicleBreak, Walk, Walked, Window, abs, break_schedule_schedule, customer_at,
-    evaluation_check, evaluation_route_feasible, get, has_soft_windows, infinity, is_finite,
-    largest, limited, max, min, penalty_at, route_checks_needed, scale, serve_at, total_less,
-    travel_time, window_at,
+    Customer, Label, RouteEval, RouteLimits, TimeWindow, Vehicle, VehicleBreak, Walk, abs,
+    break_schedule_schedule, customer_at, evaluation_check, evaluation_route_feasible, get,
+    has_soft_windows, infinity, is_finite, largest, limited, max, min, penalty_at,
+    route_checks_needed, scale, serve_at, total_less, travel_time, window_at,
 };
 
 // The walk of the route check over the front part of a route, up to position pos.
@@ -34,7 +31,7 @@ fn reach_front(
     due: &[f64],
     penalty: &[f64],
     flags: &[u8],
-) -> Reached
+) -> Option<Way>
     requires fit { Fit (customers service.now ready.now due.now penalty.now flags.now) (matrix n distances.now times.now) }
     requires depot_lt_n { (depot < n) × (pos ≤ length route.now) × Stops n route.now }
     ensures { result ≡ reach_all (customers service.now ready.now due.now penalty.now flags.now)
@@ -67,7 +64,7 @@ fn reach_tail(
     due: &[f64],
     penalty: &[f64],
     flags: &[u8],
-) -> Reached
+) -> Option<Way>
     requires fit { Fit (customers service.now ready.now due.now penalty.now flags.now) (matrix n distances.now times.now) }
     requires prev_lt_n { (way.prev < n) × (pos ≤ length route.now) × Stops n route.now }
     ensures { result ≡ reach_all (customers service.now ready.now due.now penalty.now flags.now)
@@ -101,24 +98,18 @@ fn trial_reached(
     due: &[f64],
     penalty: &[f64],
     flags: &[u8],
-) -> Reached
+) -> Option<Way>
     requires fit { Fit (customers service.now ready.now due.now penalty.now flags.now) (matrix n distances.now times.now) }
     requires depot_lt_n { (depot < n) × (c < n) × (pos ≤ length route.now) × Stops n route.now }
     ensures { result ≡ reach_all (customers service.now ready.now due.now penalty.now flags.now)
         (matrix n distances.now times.now) (insert_at pos c route.now) (set_out depot) }
 {
-    let front = reach_front(
+    let before = reach_front(
         route, pos, depot, n, distances, times, service, ready, due, penalty, flags,
-    );
-    let Reached::At(before) = front else {
-        return Reached::Late;
-    };
-    let stop = reach(
+    )?;
+    let after = reach(
         before, c, n, distances, times, service, ready, due, penalty, flags,
-    );
-    let Reached::At(after) = stop else {
-        return Reached::Late;
-    };
+    )?;
     reach_tail(
         after, route, pos, n, distances, times, service, ready, due, penalty, flags,
     )
@@ -138,7 +129,7 @@ fn ride_front(
     due: &[f64],
     penalty: &[f64],
     flags: &[u8],
-) -> Ridden
+) -> Option<Riding>
     requires fit { Fit (customers service.now ready.now due.now penalty.now flags.now) (matrix n distances.now times.now) }
     requires depot_lt_n { (depot < n) × (pos ≤ length route.now) × Stops n route.now }
     ensures { result ≡ ride_all (customers service.now ready.now due.now penalty.now flags.now)
@@ -173,7 +164,7 @@ fn ride_tail(
     due: &[f64],
     penalty: &[f64],
     flags: &[u8],
-) -> Ridden
+) -> Option<Riding>
     requires fit { Fit (customers service.now ready.now due.now penalty.now flags.now) (matrix n distances.now times.now) }
     requires prev_lt_n { (way.clock.prev < n) × (pos ≤ length route.now) × Stops n route.now × (way.clock.index ≡ pos + 1) }
     ensures { result ≡ ride_all (customers service.now ready.now due.now penalty.now flags.now)
@@ -210,25 +201,19 @@ fn trial_ridden(
     due: &[f64],
     penalty: &[f64],
     flags: &[u8],
-) -> Ridden
+) -> Option<Riding>
     requires fit { Fit (customers service.now ready.now due.now penalty.now flags.now) (matrix n distances.now times.now) }
     requires depot_lt_n { (depot < n) × (c < n) × (pos ≤ length route.now) × Stops n route.now }
     ensures { result ≡ ride_all (customers service.now ready.now due.now penalty.now flags.now)
         (matrix n distances.now times.now) rest (insert_at pos c route.now) (ride-out depot) }
 {
-    let front = ride_front(
+    let before = ride_front(
         route, pos, depot, rest, n, distances, times, service, ready, due, penalty, flags,
-    );
-    let Ridden::At(before) = front else {
-        return Ridden::Stuck;
-    };
+    )?;
     let one = [c as u16];
-    let stop = ride_all(
+    let after = ride_all(
         before, rest, &one, n, distances, times, service, ready, due, penalty, flags,
-    );
-    let Ridden::At(after) = stop else {
-        return Ridden::Stuck;
-    };
+    )?;
     ride_tail(
         after, route, pos, rest, n, distances, times, service, ready, due, penalty, flags,
     )
@@ -255,23 +240,21 @@ pub fn trial_feasible(
     ensures { result ≡ route_feasible (customers service.now ready.now due.now penalty.now flags.now)
         (matrix n distances.now times.now) depot limits (insert_at pos c route.now) }
 {
-    let rest = limits.rest;
-    let Rest::Break(earliest, latest, duration) = rest else {
+    let Some(rest) = limits.rest else {
         let walked = trial_reached(
             route, pos, c, depot, n, distances, times, service, ready, due, penalty, flags,
         );
-        let Reached::At(way) = walked else {
+        let Some(way) = walked else {
             return false;
         };
         return home_allowed(way, depot, limits, n, distances, times);
     };
-    let pause = VehicleBreak::new(earliest, latest, duration);
     let ridden = trial_ridden(
-        route, pos, c, depot, pause, n, distances, times, service, ready, due, penalty, flags,
+        route, pos, c, depot, rest, n, distances, times, service, ready, due, penalty, flags,
     );
-    let Ridden::At(at) = ridden else {
+    let Some(at) = ridden else {
         return false;
     };
-    let e = ride_home(at, pause, depot, n, distances, times);
+    let e = ride_home(at, rest, depot, n, distances, times);
     is_feasible(limited(e, limits))
 }

@@ -1,11 +1,11 @@
 -- Laws of the definitions of `quick_test` (specs/Quick) on departures, each from the facts that the code has where it needs it. Assumes nothing.
+use Rattle.std.specs.Prelude.{Option, Some, None}
 use Prim.Native.Nat.{ℕ, ◌+◌, ◌*◌, ◌^◌, ◌<◌, ◌≤◌}
 use native.Mathlib.Nat.{le_antisymm}
 use native.Mathlib.Numerals.{add-one}
 use native.Mathlib.Omega.{arith}
 use mathlib.Core.Path.{◌≡◌, refl, sym, ap, ◌∙◌}
 use mathlib.Core.List.{List, [], ◌∷◌, ◌++◌, append_assoc, append-nil}
-use mathlib.Core.Option.{Option, none, some}
 use lib.ListN.{length, get_or, take, drop, set, length-set, drop_of_length-le}
 use lib.Seq.{drop-cons, take-suc-set}
 use lib.Ieee.{Float}
@@ -15,8 +15,6 @@ use borrow.Author.Rules.{scaled_Fits}
 use Rattle.latest_times.specs.floats.Binary64.{0f}
 use Rattle.latest_times.specs.models.Customer.{Customers}
 use Rattle.latest_times.specs.models.Problem.{DistanceMatrix, Fit, Stops}
-use Rattle.latest_times.specs.evaluation.declared.check.Left.{Left}
-use Rattle.latest_times.specs.evaluation.declared.check.Left.TheVariants.{Missed, At as LeftAt}
 use Rattle.latest_times.specs.BreakClockStopLaws.{stop_laws}
 use Rattle.latest_times.specs.quick_test.Quick.{then_on, departures_from, departures}
 use Rattle.latest_times.specs.quick_test.Parts.{leave}
@@ -24,19 +22,19 @@ use Rattle.latest_times.specs.quick_test.Parts.{leave}
 -- ---- the walk over the stops: those that are left already, then the others
 
 abbrev after : List Float → Option (List Float) → Option (List Float)
-after front none = none
-after front (some later) = some (front ++ later)
+after front None = None
+after front (Some later) = Some (front ++ later)
 
 after_nothing : (o : Option (List Float)) → o ≡ after [] o
-after_nothing none = refl
-after_nothing (some later) = refl
+after_nothing None = refl
+after_nothing (Some later) = refl
 
-after_one : (front : List Float) (time : Float) (on : Float → Option (List Float)) → after front (then_on (LeftAt time) on) ≡ after (front ++ (time ∷ [])) (on time)
+after_one : (front : List Float) (time : Float) (on : Float → Option (List Float)) → after front (then_on (Some time) on) ≡ after (front ++ (time ∷ [])) (on time)
 after_one front time on = go (on time)
   where
-    go : (o : Option (List Float)) → after front (then_on (LeftAt time) (λ t. o)) ≡ after (front ++ (time ∷ [])) o
-    go none = refl
-    go (some later) = ap some (sym (append_assoc front (time ∷ []) later))
+    go : (o : Option (List Float)) → after front (then_on (Some time) (λ t. o)) ≡ after (front ++ (time ∷ [])) o
+    go None = refl
+    go (Some later) = ap Some (sym (append_assoc front (time ∷ []) later))
 
 -- the first i cells are the departures so far, and the stops from i on give the others
 pub record Leaving (cs : Customers) (m : DistanceMatrix) (depot : ℕ) (route : List ℕ) (out₀ out : List Float) (time : Float) (prev i : ℕ) : Type 0 where
@@ -56,16 +54,16 @@ module _ (cs : Customers) (m : DistanceMatrix) (depot : ℕ) (route : List ℕ) 
       record { fit = f; places = s; room = r; bytes = b; long = refl; within = omega arith; there = h; same = after_nothing (departures cs m depot route) }
 
   module _ (out : List Float) (time : Float) (prev i : ℕ) (l : Leaving cs m depot route out₀ out time prev i) where
-    module _ (s : Left) (h : i < length route) (es : s ≡ leave cs m time prev (get_or route i 0)) where
+    module _ (s : Option Float) (h : i < length route) (es : s ≡ leave cs m time prev (get_or route i 0)) where
       one : departures_from cs m time prev (drop i route) ≡ then_on s (λ t. departures_from cs m t (get_or route i 0) (drop (i + 1) route))
       unfolding departures_from leave
       one = rw (drop-cons route i 0 h, add-one i, es)
 
-      pub leaving_missed : s ≡ Missed → departures cs m depot route ≡ none
+      pub leaving_missed : s ≡ None → departures cs m depot route ≡ None
       leaving_missed e =
-          l.same ∙ ap (after (take i out)) (one ∙ ap (λ (x : Left). then_on x (λ t. departures_from cs m t (get_or route i 0) (drop (i + 1) route))) e)
+          l.same ∙ ap (after (take i out)) (one ∙ ap (λ (x : Option Float). then_on x (λ t. departures_from cs m t (get_or route i 0) (drop (i + 1) route))) e)
 
-      pub leaving_on : (t : Float) → s ≡ LeftAt t → Leaving cs m depot route out₀ (set out i t) t (get_or route i 0) (i + 1)
+      pub leaving_on : (t : Float) → s ≡ Some t → Leaving cs m depot route out₀ (set out i t) t (get_or route i 0) (i + 1)
       leaving_on t e =
           let later : Float → Option (List Float) = λ u. departures_from cs m u (get_or route i 0) (drop (i + 1) route) in
           let inside : i < length out = omega (arith, l.long, l.room) in
@@ -80,19 +78,19 @@ module _ (cs : Customers) (m : DistanceMatrix) (depot : ℕ) (route : List ℕ) 
             there = l.places.each i h;
             same =
                 l.same
-                ∙ ap (after (take i out)) (one ∙ ap (λ (x : Left). then_on x later) e)
+                ∙ ap (after (take i out)) (one ∙ ap (λ (x : Option Float). then_on x later) e)
                 ∙ after_one (take i out) t later
                 ∙ ap (λ (front : List Float). after front (later t)) grown;
           }
 
-    pub leaving_end : length route ≤ i → departures cs m depot route ≡ some (take (length route) out)
+    pub leaving_end : length route ≤ i → departures cs m depot route ≡ Some (take (length route) out)
     unfolding departures_from
     leaving_end h =
         let e : i ≡ length route = le_antisymm l.within h in
         l.same
         ∙ ap (λ (rest : List ℕ). after (take i out) (departures_from cs m time prev rest)) (drop_of_length-le route h)
-        ∙ ap some (append-nil (take i out))
-        ∙ ap (λ (k : ℕ). some (take k out)) e
+        ∙ ap Some (append-nil (take i out))
+        ∙ ap (λ (k : ℕ). Some (take k out)) e
 
     pub leaving_cell : i < length route → i < length out
     leaving_cell h = omega (arith, l.long, l.room)

@@ -8,13 +8,13 @@ ghost use Rattle.latest_times.specs.models.Problem.{matrix, Fit, Stops};
 ghost use Rattle.latest_times.specs.quick_test.Quick.{departures, latest_arrivals};
 ghost use Rattle.latest_times.specs.quick_test.Parts.{told};
 
-use latest_times::{Left, infinity, latest_arrival, leave};
+use latest_times::{infinity, latest_arrival, leave};
 
 // Of the crates below, passed on to those above.
 pub use latest_times::{
-    Counts, Insertion, LocalSearchNext, Pick, Reduction, RouteCostBest, Vehicle, checked,
-    constrained, copy_part, feasible, has_room, insertion_cost, may_fit, next_pick, offset, put_in,
-    rounds, take_out, trial_ok, within_capacity,
+    Counts, Insertion, LocalSearchNext, Pick, Reduction, Vehicle, checked, constrained, copy_part,
+    feasible, has_room, insertion_cost, may_fit, next_pick, offset, put_in, rounds, take_out,
+    trial_ok, within_capacity,
 };
 
 // The time each stop of a route is left goes to the first cells; false where one is reached after its window closes.
@@ -39,19 +39,16 @@ pub fn departures(
 {
     let mut time = 0.0;
     let mut prev = depot;
-    let mut i = 0;
-    while i < route.len() {
+    for i in 0..route.len() {
         let c = route[i] as usize;
-        let done = leave(
+        let Some(left) = leave(
             time, prev, c, n, distances, times, service, ready, due, penalty, flags,
-        );
-        let Left::At(left) = done else {
+        ) else {
             return false;
         };
         out[i] = left;
         time = left;
         prev = c;
-        i += 1;
     }
     true
 }
@@ -80,9 +77,7 @@ pub fn latest_arrivals(
 {
     let mut by = infinity();
     let mut next = depot;
-    let mut i = route.len();
-    while 0 < i {
-        i -= 1;
+    for i in (0..route.len()).rev() {
         let c = route[i] as usize;
         by = latest_arrival(
             by, c, next, n, distances, times, service, ready, due, penalty, flags,

@@ -4,9 +4,9 @@
 ghost use Rattle.std.specs.Prelude.{◌≡◌};
 ghost use Rattle.planner_questions.specs.models.Problem.{problem};
 ghost use Rattle.planner_questions.specs.planner.Calls.{public_route_eval, public_effective_cost};
-ghost use Rattle.planner_questions.specs.Told.{evaluated_told, number_told};
+ghost use Rattle.planner_questions.specs.planner.Told.{told};
 
-use planner_questions::{Eval, Evaluated, Number, RouteLimits, route_refusal};
+use planner_questions::{Refusal, RouteEval, RouteLimits, route_refusal};
 
 // Of the crates below, passed on to those above.
 pub use planner_questions::{
@@ -27,16 +27,13 @@ pub fn route_eval(
     distances: &[f64],
     times: &[f64],
     vehicle: Vehicle,
-) -> Evaluated
-    ensures { evaluated_told result ≡ public_route_eval (problem n demand.now service.now ready.now due.now penalty.now flags.now
+) -> Result<Option<RouteEval>, Refusal>
+    ensures { told result ≡ public_route_eval (problem n demand.now service.now ready.now due.now penalty.now flags.now
         distances.now times.now vehicle) route.now }
 {
-    let r = route_refusal(
+    route_refusal(
         route, n, demand, service, ready, due, penalty, flags, distances, times, vehicle,
-    );
-    if r != 0 {
-        return Evaluated::Refused(r); // not evaluated
-    }
+    )?; // a refused one is not evaluated
     let worth = planner_questions::route_worth_route_eval(
         route,
         vehicle.depot_id,
@@ -50,7 +47,7 @@ pub fn route_eval(
         penalty,
         flags,
     );
-    Evaluated::Answered(worth)
+    Ok(worth)
 }
 
 // What a route costs with its lateness.
@@ -66,16 +63,13 @@ pub fn effective_cost(
     distances: &[f64],
     times: &[f64],
     vehicle: Vehicle,
-) -> Number
-    ensures { number_told result ≡ public_effective_cost (problem n demand.now service.now ready.now due.now penalty.now flags.now
+) -> Result<f64, Refusal>
+    ensures { told result ≡ public_effective_cost (problem n demand.now service.now ready.now due.now penalty.now flags.now
         distances.now times.now vehicle) route.now }
 {
-    let r = route_refusal(
+    route_refusal(
         route, n, demand, service, ready, due, penalty, flags, distances, times, vehicle,
-    );
-    if r != 0 {
-        return Number::Refused(r); // not weighed
-    }
+    )?; // a refused one is not weighed
     let cost = planner_questions::route_worth_effective_cost(
         route,
         vehicle.depot_id,
@@ -89,5 +83,5 @@ pub fn effective_cost(
         penalty,
         flags,
     );
-    Number::Answered(cost)
+    Ok(cost)
 }

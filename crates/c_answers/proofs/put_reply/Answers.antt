@@ -1,13 +1,14 @@
 -- `put_reply` meets its contract: what the check does not find alone.
-use mathlib.Core.Path.{ap}
+use mathlib.Core.Path.{sym, ap, ◌∙◌}
 use mathlib.Core.List.{[]}
-use Rattle.c_evaluations.specs.planner.Told.{replied_told}
+use Rattle.c_evaluations.specs.planner.Calls.{refused}
+use Rattle.c_evaluations.specs.planner.Told.{told}
 use Rattle.c_evaluations.specs.c_values.Said.{values}
 use Rattle.c_evaluations.specs.CValuesAnswerLaws.{put_refused, put_answered}
 use Rattle.c_answers.proofs.put_reply.Goals as goal
 
-pub returns-in-Refused : goal.returns-in-Refused
-returns-in-Refused c = put_refused _ _ _ _ (ap replied_told c.in-Refused.is)
+pub returns-in-Ok : goal.returns-in-Ok
+returns-in-Ok c = put_answered _ _ _ _ _ (ap told c.in-Ok.is) (ap (values []) c.put_numbers.ensures)
 
-pub returns-in-Answered : goal.returns-in-Answered
-returns-in-Answered c = put_answered _ _ _ _ _ (ap replied_told c.in-Answered.is) (ap (values []) c.put_numbers.ensures)
+pub returns-in-Err : goal.returns-in-Err
+returns-in-Err c = put_refused _ _ _ _ (ap told c.in-Err.is ∙ ap refused (sym c.number.ensures))

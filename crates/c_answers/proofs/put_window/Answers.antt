@@ -5,5 +5,5 @@ use Rattle.c_answers.proofs.put_window.Goals as goal
 pub returns-in-None : goal.returns-in-None
 returns-in-None c = window_none c.args.out.now c.args.found.now c.requires.0 c.requires.1 _ c.in-None.is
 
-pub returns-in-Is : goal.returns-in-Is
-returns-in-Is c = window_some c.args.out.now c.args.found.now c.requires.0 c.requires.1 _ _ c.in-Is.is
+pub returns-in-Some : goal.returns-in-Some
+returns-in-Some c = window_some c.args.out.now c.args.found.now c.requires.0 c.requires.1 _ _ c.in-Some.is

@@ -2,5 +2,5 @@
 use Rattle.c_reports.proofs.ReportLaws.{code_told, number_told}
 use Rattle.c_reports.proofs.put_printed.Goals as goal
 
-pub returns-in-Bytes : goal.returns-in-Bytes
-returns-in-Bytes c = record { code = code_told _ _ c.in-Bytes.is; number = number_told _ _ c.in-Bytes.is c.args.written.now c.requires }
+pub returns-in-Some : goal.returns-in-Some
+returns-in-Some c = record { code = code_told _ _ c.in-Some.is; number = number_told _ _ c.in-Some.is c.args.written.now c.requires }

@@ -2,8 +2,8 @@
 use Rattle.call_history.proofs.PutLaws.{refused_put, answered_put}
 use Rattle.call_history.proofs.record_answer.Goals as goal
 
-pub returns-in-Refused : goal.returns-in-Refused
-returns-in-Refused c = search refused_put
+pub returns-in-Ok : goal.returns-in-Ok
+returns-in-Ok c = answered_put _ _ _ _ _ c.in-Ok.is c.put_words.ensures
 
-pub returns-in-Answered : goal.returns-in-Answered
-returns-in-Answered c = search answered_put
+pub returns-in-Err : goal.returns-in-Err
+returns-in-Err c = refused_put _ _ _ _ _ _ c.in-Err.is c.number.ensures c.put_words-in-Err.ensures

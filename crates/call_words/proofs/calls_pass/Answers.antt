@@ -14,8 +14,8 @@ words_at-w-requires c = search judging_laws
 pub returns-then-not-call_passes : goal.returns-then-not-call_passes
 returns-then-not-call_passes c = search (judging_laws, via, not-true)
 
-pub returns-then-left-tape : goal.returns-then-left-tape
-returns-then-left-tape c = search (judging_laws, via, not-false)
+pub returns-then-left-w : goal.returns-then-left-w
+returns-then-left-w c = search (judging_laws, via, not-false)
 
 pub loop-i-preserved : goal.loop-i-preserved
 loop-i-preserved c = search (judging_laws, via, not-false)

@@ -4,7 +4,7 @@ use mathlib.Core.Path.{ap}
 use mathlib.Core.Bool.{not}
 use native.Mathlib.Omega.{arith}
 use Rattle.ejection.specs.route_cost.Route.{insertion_cost}
-use Rattle.ejection.specs.Eject.{chosen, outranks}
+use Rattle.ejection.specs.Eject.{outranks}
 use Rattle.ejection_positions.specs.Pass.{none_outranks}
 use Rattle.ejection.specs.laws.Passed.{passed_one, failed_one, every_laws}
 use Rattle.ejection_positions.proofs.PositionLaws.{rank_told}
@@ -15,10 +15,10 @@ loop-pos-init c = search every_laws
 
 pub returns-then-outranks : goal.returns-then-outranks
 unfolding none_outranks
-returns-then-outranks c = failed_one _ _ _ c.loop-pos.invariant _ (omega arith) (rank_told _ _ c.args.failed _ _ _ (chosen c.args.best) _ _ c.insertion_cost-cost.ensures c.outranks.ensures) (ap not c.if-outranks.true)
+returns-then-outranks c = failed_one _ _ _ c.loop-pos.invariant _ (omega arith) (rank_told _ _ c.args.failed _ _ _ c.args.best _ _ c.insertion_cost-cost.ensures c.outranks.ensures) (ap not c.if-outranks.true)
 
 pub loop-pos-preserved : goal.loop-pos-preserved
-loop-pos-preserved c = passed_one _ _ _ c.loop-pos.invariant _ (omega arith) (rank_told _ _ c.args.failed _ _ _ (chosen c.args.best) _ _ c.insertion_cost-cost.ensures c.outranks.ensures) (ap not c.if-outranks.false)
+loop-pos-preserved c = passed_one _ _ _ c.loop-pos.invariant _ (omega arith) (rank_told _ _ c.args.failed _ _ _ c.args.best _ _ c.insertion_cost-cost.ensures c.outranks.ensures) (ap not c.if-outranks.false)
 
 pub returns : goal.returns
 unfolding none_outranks

@@ -1,16 +1,13 @@
--- What the loops of `none_outranks` keep.
-use Prim.Native.Nat.{suc, ◌-◌}
+-- What the loop of `none_outranks` keeps.
+use Prim.Native.Nat.{suc}
 use mathlib.Core.Bool.{not}
 use mathlib.Core.List.{[]}
 use lib.ListN.{length}
 use Rattle.ejection.specs.models.Problem.{matrix}
 use Rattle.ejection.specs.route_cost.Route.{insertion_cost}
-use Rattle.ejection.specs.Eject.{chosen, outranks}
+use Rattle.ejection.specs.Eject.{outranks}
 use Rattle.ejection.specs.laws.Passed.{Passed}
 use Rattle.ejection_positions.proofs.none_outranks.Given as goal
 
 abbrev pub invariant-loop-pos : goal.invariant-loop-pos
-invariant-loop-pos l = Passed (λ q. not (outranks l.failed (insertion_cost (matrix l.n l.distances []) l.depot l.kept q l.c) (chosen l.best))) (suc (length l.kept)) l.pos
-
-abbrev pub decreases-loop-pos : goal.decreases-loop-pos
-decreases-loop-pos l = suc (length l.kept) - l.pos
+invariant-loop-pos l = Passed (λ q. not (outranks l.failed (insertion_cost (matrix l.n l.distances []) l.depot l.kept q l.c) l.best)) (suc (length l.kept)) l.pos

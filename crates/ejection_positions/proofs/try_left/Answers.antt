@@ -3,12 +3,10 @@ use native.Mathlib.Omega.{arith}
 use Rattle.ejection.specs.RouteLoadFeasibleLaws.{demands_own, stops_own, place_own}
 use Rattle.ejection_positions.proofs.PositionLaws.{kept_laws}
 use Rattle.ejection_positions.proofs.try_left.Goals as goal
+use Rattle.ejection_positions.proofs.try_left.Goals.{then-not-has_room-via-then-not-has_room, then-not-has_room-via-else-not-has_room+then-none_outranks}
 
 pub has_room-requires : goal.has_room-requires
 has_room-requires c = (demands_own _ _ c.requires.admitted.demands, stops_own _ _ c.requires.admitted.demands _ c.requires.c_lt_n.1, place_own _ _ c.requires.admitted.demands _ c.requires.c_lt_n.0)
-
-pub returns-then-none_outranks : goal.returns-then-none_outranks
-returns-then-none_outranks c = search kept_laws
 
 pub try_positions-requires : goal.try_positions-requires
 try_positions-requires c = record { fit = c.requires.admitted.fit; depot_id_bound = (c.requires.admitted.depot_in, c.requires.c_lt_n.0, c.requires.c_lt_n.1, omega (arith, c.requires.c_lt_n.2, c.prepare.auto.cells), c.requires.c_lt_n.3) }
@@ -16,8 +14,8 @@ try_positions-requires c = record { fit = c.requires.admitted.fit; depot_id_boun
 pub returns-then-prepare : goal.returns-then-prepare
 returns-then-prepare c = search kept_laws
 
-pub returns-then-has_room : goal.returns-then-has_room
-returns-then-has_room c = search kept_laws
+pub returns-then-not-has_room : goal.returns-then-not-has_room
+returns-then-not-has_room c = elim c.then-not-has_room.branch [ then-not-has_room-via-then-not-has_room w ↦ search kept_laws | then-not-has_room-via-else-not-has_room+then-none_outranks w ↦ search kept_laws ]
 
-pub returns : goal.returns
-returns c = search kept_laws
+pub returns-else-prepare : goal.returns-else-prepare
+returns-else-prepare c = search kept_laws

@@ -1,7 +1,7 @@
 -- `try_positions` meets its contract: what the check does not find alone.
 use native.Mathlib.Omega.{arith}
 use Prim.Native.Nat.{◌-◌}
-use Rattle.ejection.specs.InsertionAlongLaws.{along_more, along_laws}
+use Rattle.ejection.specs.InsertionAlongLaws.{along_more, along_end, along_laws}
 use borrow.Author.Rules.{rules}
 use Rattle.ejection_positions.proofs.try_positions.Goals as goal
 
@@ -11,11 +11,8 @@ loop-pos-init c = search along_laws
 pub try_in_kept-found-requires : goal.try_in_kept-found-requires
 try_in_kept-found-requires c = record { fit = c.loop-pos.invariant.fit; depot_id_bound = (c.loop-pos.invariant.home, c.loop-pos.invariant.there, search rules, c.loop-pos.invariant.stops, c.loop-pos.invariant.room, c.loop-pos.invariant.asked) }
 
-pub overflow_add-pos : goal.overflow_add-pos
-overflow_add-pos c = search along_laws
-
 pub loop-pos-preserved : goal.loop-pos-preserved
 loop-pos-preserved c = along_more _ _ _ _ _ _ _ _ _ c.loop-pos.invariant _ (omega arith) c.try_in_kept-found.ensures
 
 pub returns : goal.returns
-returns c = search along_laws
+returns c = along_end _ _ _ _ _ _ _ _ _ c.loop-pos.invariant (omega arith)

@@ -3,11 +3,11 @@ use Rattle.ejection_search.proofs.SearchLaws.{eject_first, eject_second}
 use native.Mathlib.Omega.{arith}
 use Rattle.ejection_search.proofs.eject.Goals as goal
 
-pub returns-in-At : goal.returns-in-At
-returns-in-At c = search (eject_first, c.eject_some-one.ensures, c.in-At.is)
+pub returns-in-Some : goal.returns-in-Some
+returns-in-Some c = search (eject_first, c.eject_some-one.ensures, c.in-Some.is)
 
 pub eject_some-requires : goal.eject_some-requires
 eject_some-requires c = record { admitted = c.requires.admitted; lent = (c.requires.lent.0, c.requires.lent.1, c.requires.lent.2, c.requires.lent.3, omega (arith, c.requires.lent.4, c.eject_some-one.auto.work), omega (arith, c.requires.lent.5, c.eject_some-one.auto.cells), c.requires.lent.6) }
 
-pub returns : goal.returns
-returns c = search (eject_second, c.eject_some-one.ensures, c.eject_some.ensures, c.in_default.is)
+pub returns-in-None : goal.returns-in-None
+returns-in-None c = search (eject_second, c.eject_some-one.ensures, c.eject_some.ensures, c.in-None.is)

@@ -14,9 +14,6 @@ overflow_add-end c = part_end_fits _ _ _ _ _ c.loop-k.invariant.visit c.loop-k-t
 pub try_part-best-requires : goal.try_part-best-requires
 try_part-best-requires c = record { at_le_end = (omega arith, part_end _ _ _ _ _ c.loop-k.invariant.visit c.loop-k-test.true); sought = over_sought _ _ _ _ _ _ _ _ _ _ _ _ _ _ c.loop-k.invariant c.loop-k-test.true; stops_in_bounds = (c.loop-k.invariant.work_room, c.loop-k.invariant.cells_room) }
 
-pub overflow_add-k : goal.overflow_add-k
-overflow_add-k c = omega (arith, c.well_formed, c.loop-k-test.true)
-
 pub loop-k-preserved : goal.loop-k-preserved
 loop-k-preserved c = over_more _ _ _ _ _ _ _ _ _ _ _ _ _ _ c.loop-k.invariant _ _ _ c.loop-k-test.true c.try_part-best.auto.work c.try_part-best.auto.cells c.try_part-best.ensures
 

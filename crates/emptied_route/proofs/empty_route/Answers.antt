@@ -16,4 +16,4 @@ pub returns-in_default : goal.returns-in_default
 returns-in_default c = record { plan = empty_stuck _ _ _ _ _ _ c.requires.0 c.keep_route.new.left c.keep_route.ensures c.erase_route.new.lengths c.erase_route.new.stops c.erase_route.ensures.rest c.erase_route.ensures.plan _ c.move_into-sum.result c.move_into-sum.new.lengths c.move_into-sum.new.stops c.move_into-sum.ensures.moved c.in_default.is; kept = not_accepted }
 
 pub returns : goal.returns
-returns c = record { plan = empty_gained _ _ _ _ _ _ c.requires.0 c.keep_route.new.left c.keep_route.ensures c.erase_route.new.lengths c.erase_route.new.stops c.erase_route.ensures.rest c.erase_route.ensures.plan _ c.move_into-sum.result c.move_into-sum.new.lengths c.move_into-sum.new.stops c.move_into-sum.ensures.moved _ c.in-At.is _ c.requires.1; kept = λ _. empty_accepted _ _ _ _ _ _ c.requires.0 c.keep_route.new.left c.keep_route.ensures c.erase_route.new.lengths c.erase_route.new.stops c.erase_route.ensures.rest c.erase_route.ensures.plan _ c.move_into-sum.result c.move_into-sum.new.lengths c.move_into-sum.new.stops c.move_into-sum.ensures.moved _ c.in-At.is c.move_into-sum.ensures.kept c.move_into-sum.ensures.last }
+returns c = record { plan = empty_gained _ _ _ _ _ _ c.requires.0 c.keep_route.new.left c.keep_route.ensures c.erase_route.new.lengths c.erase_route.new.stops c.erase_route.ensures.rest c.erase_route.ensures.plan _ c.move_into-sum.result c.move_into-sum.new.lengths c.move_into-sum.new.stops c.move_into-sum.ensures.moved _ c.in-Some.is _ c.requires.1; kept = λ _. empty_accepted _ _ _ _ _ _ c.requires.0 c.keep_route.new.left c.keep_route.ensures c.erase_route.new.lengths c.erase_route.new.stops c.erase_route.ensures.rest c.erase_route.ensures.plan _ c.move_into-sum.result c.move_into-sum.new.lengths c.move_into-sum.new.stops c.move_into-sum.ensures.moved _ c.in-Some.is c.move_into-sum.ensures.kept c.move_into-sum.ensures.last }

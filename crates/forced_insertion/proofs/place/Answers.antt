@@ -10,7 +10,7 @@ pub returns-in_default : goal.returns-in_default
 returns-in_default c = record { found = search (nowhere, c.cheapest-best.ensures, c.in_default.is); plan = search (nowhere_put, c.cheapest-best.ensures, c.in_default.is) }
 
 pub put_in-requires : goal.put_in-requires
-put_in-requires c = record { lent = c.requires.lent.0; has_position = (somewhere_inside _ _ _ _ c.cheapest-best.ensures _ c.in-At.is, c.requires.lent.3) }
+put_in-requires c = record { lent = c.requires.lent.0; has_position = (somewhere_inside _ _ _ _ c.cheapest-best.ensures _ c.in-Some.is, c.requires.lent.3) }
 
 pub returns : goal.returns
-returns c = record { found = somewhere _ _ _ _ c.cheapest-best.ensures _ c.in-At.is; plan = somewhere_put _ _ _ _ c.cheapest-best.ensures _ c.in-At.is _ _ _ c.put_in.ensures }
+returns c = record { found = somewhere _ _ _ _ c.cheapest-best.ensures _ c.in-Some.is; plan = somewhere_put _ _ _ _ c.cheapest-best.ensures _ c.in-Some.is _ _ _ c.put_in.ensures }

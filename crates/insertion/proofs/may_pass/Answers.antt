@@ -2,11 +2,11 @@
 use Rattle.insertion.proofs.PassLaws.{pass_laws}
 use Rattle.insertion.proofs.may_pass.Goals as goal
 
+pub returns-then-not-needed : goal.returns-then-not-needed
+returns-then-not-needed c = search pass_laws
+
 pub returns-then-fits : goal.returns-then-fits
 returns-then-fits c = search pass_laws
 
-pub returns-then-needed : goal.returns-then-needed
-returns-then-needed c = search pass_laws
-
-pub returns : goal.returns
-returns c = search pass_laws
+pub returns-else-fits : goal.returns-else-fits
+returns-else-fits c = search pass_laws

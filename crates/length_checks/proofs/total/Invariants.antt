@@ -1,11 +1,6 @@
--- What the loops of `total` keep.
-use Prim.Native.Nat.{◌-◌}
-use lib.ListN.{length}
+-- What the loop of `total` keeps.
 use Rattle.length_checks.proofs.SumLaws.{Summed}
 use Rattle.length_checks.proofs.total.Given as goal
 
-abbrev pub invariant-loop-k : goal.invariant-loop-k
-invariant-loop-k l = Summed l.lengths l.sum l.k
-
-abbrev pub decreases-loop-k : goal.decreases-loop-k
-decreases-loop-k l = length l.lengths - l.k
+abbrev pub invariant-loop-length : goal.invariant-loop-length
+invariant-loop-length l = Summed l.lengths l.sum l.length-index

@@ -1,7 +1,5 @@
 -- `places_pass` meets its contract: what the check does not find alone.
-use Prim.Native.Nat.{◌-◌}
 use Rattle.problem_checks.specs.laws.Passed.{every_laws}
-use Rattle.problem_checks.specs.models.Valid.{place_passes}
 use Rattle.place_checks.proofs.places_pass.Goals as goal
 
 pub loop-c-init : goal.loop-c-init
@@ -12,12 +10,6 @@ place_passes-requires c = search every_laws
 
 pub returns-then-not-place_passes : goal.returns-then-not-place_passes
 returns-then-not-place_passes c = search every_laws
-
-pub overflow_add-c : goal.overflow_add-c
-overflow_add-c c = search every_laws
-
-pub loop-c-smaller : goal.loop-c-smaller
-loop-c-smaller c = search every_laws
 
 pub loop-c-preserved : goal.loop-c-preserved
 loop-c-preserved c = search every_laws

@@ -1,7 +1,5 @@
 -- `windows_pass` meets its contract: what the check does not find alone.
-use Prim.Native.Nat.{◌-◌}
 use Rattle.problem_checks.specs.laws.Passed.{every_laws}
-use Rattle.problem_checks.specs.models.Valid.{window_ordered}
 use Rattle.place_checks.proofs.windows_pass.Goals as goal
 
 pub loop-c-init : goal.loop-c-init
@@ -12,12 +10,6 @@ window_ordered-requires c = search every_laws
 
 pub returns-then-not-window_ordered : goal.returns-then-not-window_ordered
 returns-then-not-window_ordered c = search every_laws
-
-pub overflow_add-c : goal.overflow_add-c
-overflow_add-c c = search every_laws
-
-pub loop-c-smaller : goal.loop-c-smaller
-loop-c-smaller c = search every_laws
 
 pub loop-c-preserved : goal.loop-c-preserved
 loop-c-preserved c = search every_laws

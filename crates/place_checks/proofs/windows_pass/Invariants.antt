@@ -1,5 +1,4 @@
--- What the loops of `windows_pass` keep.
-use Prim.Native.Nat.{◌-◌}
+-- What the loop of `windows_pass` keeps.
 use mathlib.Core.List.{[]}
 use lib.ListN.{length}
 use Rattle.problem_checks.specs.laws.Passed.{Passed}
@@ -9,6 +8,3 @@ use Rattle.place_checks.proofs.windows_pass.Given as goal
 
 abbrev pub invariant-loop-c : goal.invariant-loop-c
 invariant-loop-c l = Passed (window_ordered (customers [] l.ready l.due [] l.flags)) (length l.flags) l.c
-
-abbrev pub decreases-loop-c : goal.decreases-loop-c
-decreases-loop-c l = length l.flags - l.c

@@ -1,5 +1,4 @@
 -- `offset` meets its contract: what the check does not find alone.
-use Rattle.std.proofs.Common.{◌-◌}
 use Rattle.plan.proofs.PlanLaws.{summing_laws}
 use Rattle.plan.proofs.offset.Goals as goal
 
@@ -11,6 +10,3 @@ overflow_add-sum c = search summing_laws
 
 pub loop-i-preserved : goal.loop-i-preserved
 loop-i-preserved c = search summing_laws
-
-pub returns : goal.returns
-returns c = search summing_laws

@@ -1,12 +1,13 @@
 -- `schedule` meets its contract: what the check does not find alone.
+use Rattle.std.proofs.lemmas.Result.{err_from_is_err_and}
 use Rattle.planner_questions.proofs.QuestionLaws.{schedule_fit, schedule_depot, schedule_stops, schedule_refused, schedule_answered}
 use Rattle.planner_questions.proofs.schedule.Goals as goal
 
-pub returns-then-r-ne0 : goal.returns-then-r-ne0
-returns-then-r-ne0 c = search schedule_refused
+pub returns-in_err-schedule_refusal : goal.returns-in_err-schedule_refusal
+returns-in_err-schedule_refusal c = let p = err_from_is_err_and c.from_residual.result c.from_residual.ensures.1 in rw (p.1, p.2) (schedule_refused _ _ _ _ c.in_err-schedule_refusal.ensures)
 
 pub schedule-timed-requires : goal.schedule-timed-requires
-schedule-timed-requires c = record { fit = schedule_fit _ _ _ _ c.schedule_refusal-r.ensures c.if-r-ne0.false; depot_lt_n = (schedule_depot _ _ _ _ c.schedule_refusal-r.ensures c.if-r-ne0.false, schedule_stops _ _ _ _ c.schedule_refusal-r.ensures c.if-r-ne0.false) }
+schedule-timed-requires c = record { fit = schedule_fit _ _ _ c.in_ok-schedule_refusal.ensures; depot_lt_n = (schedule_depot _ _ _ c.in_ok-schedule_refusal.ensures, schedule_stops _ _ _ c.in_ok-schedule_refusal.ensures) }
 
 pub returns : goal.returns
-returns c = search schedule_answered
+returns c = schedule_answered _ _ _ c.in_ok-schedule_refusal.ensures _ c.schedule-timed.ensures

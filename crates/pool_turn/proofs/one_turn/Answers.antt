@@ -13,8 +13,8 @@ bounds-pool-m c = omega (arith, in_pool _ _ _ _ _ _ _ _ _ _ _ _ c.requires.runni
 pub place-requires : goal.place-requires
 place-requires c = record { admitted = c.requires.running.admitted; lent = (c.requires.running.lent, planned _ _ _ _ _ _ _ _ _ _ _ _ c.requires.running, top_place _ _ _ _ _ _ _ _ _ _ _ _ c.requires.running c.requires.count_nonzero.0, room_left _ _ _ _ _ _ _ _ _ _ _ _ c.requires.running c.requires.count_nonzero.0, c.requires.running.cells_room, c.requires.running.check) }
 
-pub overflow_add-result : goal.overflow_add-result
-overflow_add-result c = omega (arith, c.requires.count_nonzero.1)
+pub overflow_add-after : goal.overflow_add-after
+overflow_add-after c = omega (arith, c.requires.count_nonzero.1)
 
 pub returns-then-place : goal.returns-then-place
 returns-then-place c = record { plan = turn_placed _ _ _ _ _ _ _ _ _ _ _ c.place.ensures.found c.if-place.true c.place.ensures.plan; held = placed_lent _ _ _ _ _ _ c.requires.running.lent c.place.auto.stops (omega (arith, all_stops _ _ _ _ _ _ _ _ _ _ _ _ c.requires.running, c.requires.count_nonzero.0, one_at_most c.place.result)) c.place.ensures.plan }

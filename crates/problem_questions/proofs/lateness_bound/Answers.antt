@@ -1,12 +1,13 @@
 -- `lateness_bound` meets its contract: what the check does not find alone.
+use Rattle.std.proofs.lemmas.Result.{err_from_is_err_and}
 use Rattle.problem_questions.proofs.ProblemLaws.{problem_fit, bound_refused, bound_answered}
 use Rattle.problem_questions.proofs.lateness_bound.Goals as goal
 
-pub returns-then-r-ne0 : goal.returns-then-r-ne0
-returns-then-r-ne0 c = search bound_refused
+pub returns-in_err-problem_refusal : goal.returns-in_err-problem_refusal
+returns-in_err-problem_refusal c = let p = err_from_is_err_and c.from_residual.result c.from_residual.ensures.1 in rw (p.1, p.2) (bound_refused _ _ c.in_err-problem_refusal.ensures)
 
 pub lateness_bound-most-requires : goal.lateness_bound-most-requires
-lateness_bound-most-requires c = problem_fit _ _ c.problem_refusal-r.ensures c.if-r-ne0.false
+lateness_bound-most-requires c = problem_fit _ c.in_ok-problem_refusal.ensures
 
 pub returns : goal.returns
-returns c = search bound_answered
+returns c = bound_answered _ c.in_ok-problem_refusal.ensures _ c.lateness_bound-most.ensures

@@ -1,10 +1,10 @@
 -- `may_fit` meets its contract: what the check does not find alone.
-use borrow.Author.Rules.{rules}
+use Rattle.std.proofs.Common.{rules}
 use Rattle.quick_fit.proofs.FitLaws.{before_there, fit_laws}
 use Rattle.quick_fit.proofs.may_fit.Goals as goal
 
-pub leave-done-requires : goal.leave-done-requires
-leave-done-requires c = record { fit = search (rules, before_there); prev_lt_n = search (rules, before_there) }
+pub leave-requires-clause-prev_lt_n : goal.leave-requires-clause-prev_lt_n
+leave-requires-clause-prev_lt_n c = search (rules, before_there)
 
 pub returns-in_default : goal.returns-in_default
 returns-in_default c = search fit_laws

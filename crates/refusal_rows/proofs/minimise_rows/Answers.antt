@@ -1,12 +1,17 @@
 -- `minimise_rows` meets its contract: what the check does not find alone.
-use Rattle.refusal_rows.proofs.GroupLaws.{work_laws}
+use borrow.Author.Rules.{rules}
+use Rattle.stop_checks.specs.entry.Rows.{minimise_rows}
+use Rattle.refusal_rows.proofs.GroupLaws.{empty_tape, some_tape}
 use Rattle.refusal_rows.proofs.minimise_rows.Goals as goal
 
-pub returns-then-tape-eq0 : goal.returns-then-tape-eq0
-returns-then-tape-eq0 c = search work_laws
+pub returns-then-is_empty : goal.returns-then-is_empty
+unfolding minimise_rows
+returns-then-is_empty c = search (rules, empty_tape, some_tape)
 
 pub returns-then-limit-gt65535 : goal.returns-then-limit-gt65535
-returns-then-limit-gt65535 c = search work_laws
+unfolding minimise_rows
+returns-then-limit-gt65535 c = search (rules, empty_tape, some_tape)
 
 pub returns : goal.returns
-returns c = search work_laws
+unfolding minimise_rows
+returns c = search (rules, empty_tape, some_tape)

@@ -1,29 +1,34 @@
 -- `problem_rows` meets its contract: what the check does not find alone.
+use borrow.Author.Rules.{rules}
 use Rattle.place_checks.specs.laws.Picks.{via}
-use Rattle.refusal_rows.proofs.GroupLaws.{problem_laws, ready_flags, due_flags}
+use Rattle.place_checks.specs.models.Valid.{windows_pass}
+use Rattle.stop_checks.specs.entry.Rows.{problem_rows}
+use Rattle.refusal_rows.proofs.GroupLaws.{ready_flags, due_flags}
 use Rattle.refusal_rows.proofs.problem_rows.Goals as goal
 
 pub values_pass-requires : goal.values_pass-requires
-values_pass-requires c = via _ _ _ c.sizes_pass.ensures c.if-sizes_pass.true
+values_pass-requires c = search rules
 
 pub windows_pass-requires : goal.windows_pass-requires
-windows_pass-requires c = let e = via _ _ _ c.sizes_pass.ensures c.if-sizes_pass.true in
+windows_pass-requires c = let e = via _ _ _ c.sizes_pass.ensures c.if-not-sizes_pass.false in
     (ready_flags _ e, due_flags _ e)
 
+pub returns-then-not-sizes_pass : goal.returns-then-not-sizes_pass
+unfolding problem_rows windows_pass
+returns-then-not-sizes_pass c = search rules
+
+pub returns-then-not-beside : goal.returns-then-not-beside
+unfolding problem_rows windows_pass
+returns-then-not-beside c = search rules
+
+pub returns-then-not-windows_pass : goal.returns-then-not-windows_pass
+unfolding problem_rows windows_pass
+returns-then-not-windows_pass c = search rules
+
 pub returns-then-vehicle-n : goal.returns-then-vehicle-n
-returns-then-vehicle-n c = search problem_laws
-
-pub returns-then-windows_pass : goal.returns-then-windows_pass
-returns-then-windows_pass c = search problem_laws
-
-pub returns-then-beside : goal.returns-then-beside
-returns-then-beside c = search problem_laws
-
-pub returns-then-values_pass : goal.returns-then-values_pass
-returns-then-values_pass c = search problem_laws
-
-pub returns-then-sizes_pass : goal.returns-then-sizes_pass
-returns-then-sizes_pass c = search problem_laws
+unfolding problem_rows windows_pass
+returns-then-vehicle-n c = search rules
 
 pub returns : goal.returns
-returns c = search problem_laws
+unfolding problem_rows windows_pass
+returns c = search rules

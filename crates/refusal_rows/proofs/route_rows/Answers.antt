@@ -1,9 +1,12 @@
 -- `route_rows` meets its contract: what the check does not find alone.
-use Rattle.refusal_rows.proofs.GroupLaws.{plan_laws}
+use borrow.Author.Rules.{rules}
+use Rattle.stop_checks.specs.entry.Rows.{route_rows}
 use Rattle.refusal_rows.proofs.route_rows.Goals as goal
 
-pub returns-then-stops_pass : goal.returns-then-stops_pass
-returns-then-stops_pass c = search plan_laws
+pub returns-then-not-stops_pass : goal.returns-then-not-stops_pass
+unfolding route_rows
+returns-then-not-stops_pass c = search rules
 
 pub returns : goal.returns
-returns c = search plan_laws
+unfolding route_rows
+returns c = search rules

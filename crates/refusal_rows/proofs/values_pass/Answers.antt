@@ -1,5 +1,5 @@
 -- `values_pass` meets its contract: what the check does not find alone.
-use Rattle.place_checks.specs.laws.Picks.{picks}
+use borrow.Author.Rules.{rules}
 use Rattle.place_checks.specs.models.Valid.{values_pass}
 use Rattle.refusal_rows.proofs.GroupLaws.{ready_demand, due_demand, penalty_demand, flags_demand}
 use Rattle.refusal_rows.proofs.values_pass.Goals as goal
@@ -9,20 +9,8 @@ places_pass-requires c = (ready_demand _ c.requires, due_demand _ c.requires, pe
 
 pub returns-then-amounts_pass-3 : goal.returns-then-amounts_pass-3
 unfolding values_pass
-returns-then-amounts_pass-3 c = search picks depth 10
+returns-then-amounts_pass-3 c = search rules
 
-pub returns-then-amounts_pass-2 : goal.returns-then-amounts_pass-2
+pub returns-else-amounts_pass-3 : goal.returns-else-amounts_pass-3
 unfolding values_pass
-returns-then-amounts_pass-2 c = search picks depth 10
-
-pub returns-then-amounts_pass : goal.returns-then-amounts_pass
-unfolding values_pass
-returns-then-amounts_pass c = search picks depth 10
-
-pub returns-then-vehicle_passes : goal.returns-then-vehicle_passes
-unfolding values_pass
-returns-then-vehicle_passes c = search picks depth 10
-
-pub returns : goal.returns
-unfolding values_pass
-returns c = search picks depth 10
+returns-else-amounts_pass-3 c = search rules

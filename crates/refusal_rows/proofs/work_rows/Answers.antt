@@ -1,12 +1,13 @@
 -- `work_rows` meets its contract: what the check does not find alone.
-use Rattle.refusal_rows.proofs.GroupLaws.{work_laws}
+use borrow.Author.Rules.{rules}
+use Rattle.stop_checks.specs.entry.Table.{too_few}
+use Rattle.stop_checks.specs.entry.Rows.{work_rows}
 use Rattle.refusal_rows.proofs.work_rows.Goals as goal
 
 pub returns-then-small-lt8192 : goal.returns-then-small-lt8192
-returns-then-small-lt8192 c = search work_laws
-
-pub returns-then-wide-lt2048 : goal.returns-then-wide-lt2048
-returns-then-wide-lt2048 c = search work_laws
+unfolding work_rows too_few
+returns-then-small-lt8192 c = search rules
 
 pub returns : goal.returns
-returns c = search work_laws
+unfolding work_rows too_few
+returns c = search rules

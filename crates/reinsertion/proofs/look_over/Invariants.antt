@@ -1,5 +1,4 @@
--- What the loops of `look_over` keep.
-use Prim.Native.Nat.{◌-◌}
+-- What the loop of `look_over` keeps.
 use lib.ListN.{length}
 use Rattle.reinsertion_candidates.specs.models.Problem.{problem}
 use Rattle.reinsertion.proofs.OverLaws.{Seeking}
@@ -7,6 +6,3 @@ use Rattle.reinsertion.proofs.look_over.Given as goal
 
 abbrev pub invariant-loop-k : goal.invariant-loop-k
 invariant-loop-k l = Seeking (problem l.n l.demand l.service l.ready l.due l.penalty l.flags l.distances l.times l.vehicle) l.lengths l.stops l.stop l.best l.at l.k
-
-abbrev pub decreases-loop-k : goal.decreases-loop-k
-decreases-loop-k l = length l.lengths - l.k

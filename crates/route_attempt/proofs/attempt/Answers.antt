@@ -13,9 +13,9 @@ pub restore-requires : goal.restore-requires
 restore-requires c = let room : 767 ≤ length c.save.new.work = omega (arith, c.save.auto.work, c.requires.r_in_bounds.3) in
     restorable c.args.lengths.now c.args.stops.now c.save.new.work c.requires.r_in_bounds.2 c.requires.attempting.few room _ c.try_without-tried.new.lengths c.try_without-tried.new.stops c.try_without-tried.auto.lengths c.try_without-tried.auto.stops
 
-pub returns-in-Kept : goal.returns-in-Kept
-returns-in-Kept c = let room : 767 ≤ length c.save.new.work = omega (arith, c.save.auto.work, c.requires.r_in_bounds.3) in record {
-  plan = kept_tried _ _ _ _ c.try_without-tried.ensures.plan c.in-Kept.is;
+pub returns-in-Err : goal.returns-in-Err
+returns-in-Err c = let room : 767 ≤ length c.save.new.work = omega (arith, c.save.auto.work, c.requires.r_in_bounds.3) in record {
+  plan = kept_tried _ _ _ _ c.try_without-tried.ensures.plan c.in-Err.is;
   held = (
     restored_lengths c.args.lengths.now c.args.stops.now c.save.new.work c.requires.r_in_bounds.2 c.requires.attempting.few room _ c.try_without-tried.new.lengths c.try_without-tried.new.stops c.try_without-tried.auto.lengths c.try_without-tried.auto.stops _ c.save.ensures _ c.restore.ensures.lengths,
     restored_stops c.args.lengths.now c.args.stops.now c.save.new.work c.requires.r_in_bounds.2 c.requires.attempting.few room _ c.try_without-tried.new.lengths c.try_without-tried.new.stops c.try_without-tried.auto.lengths c.try_without-tried.auto.stops _ c.save.ensures _ c.restore.ensures.stops,

@@ -1,9 +1,13 @@
 -- `drive` meets its contract: what the check does not find alone.
-use Rattle.route_drive.proofs.DriveLaws.{drive_laws}
+use Rattle.std.proofs.Common.{arith}
+use Rattle.std.proofs.lemmas.Grind.{common_steps}
+use Rattle.trial_route.specs.evaluation.Eval.{drive}
 use Rattle.route_drive.proofs.drive.Goals as goal
 
-pub returns-in-Dead : goal.returns-in-Dead
-returns-in-Dead c = search drive_laws
+pub returns-in_err-label : goal.returns-in_err-label
+unfolding drive
+returns-in_err-label c = grind (arith, common_steps)
 
-pub returns-in-Live : goal.returns-in-Live
-returns-in-Live c = search drive_laws
+pub returns : goal.returns
+unfolding drive
+returns c = grind (arith, common_steps)

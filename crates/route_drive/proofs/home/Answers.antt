@@ -1,9 +1,13 @@
 -- `home` meets its contract: what the check does not find alone.
-use Rattle.route_drive.proofs.DriveLaws.{home_laws}
+use Rattle.std.proofs.Common.{arith}
+use Rattle.std.proofs.lemmas.Grind.{common_steps}
+use Rattle.trial_route.specs.evaluation.Eval.{home}
 use Rattle.route_drive.proofs.home.Goals as goal
 
 pub returns-then-allow : goal.returns-then-allow
-returns-then-allow c = search home_laws
+unfolding home
+returns-then-allow c = grind (arith, common_steps)
 
 pub returns : goal.returns
-returns c = search home_laws
+unfolding home
+returns c = grind (arith, common_steps)

@@ -2,7 +2,7 @@
 use Prim.Native.Nat.{◌-◌}
 use borrow.Author.Rules.{rules}
 use native.Mathlib.Omega.{arith}
-use Rattle.insertion.proofs.AlongLaws.{along_more, along_laws}
+use Rattle.insertion.proofs.AlongLaws.{along_more, along_end, along_laws}
 use Rattle.route_insertion.proofs.try_positions.Goals as goal
 
 pub loop-pos-init : goal.loop-pos-init
@@ -11,11 +11,8 @@ loop-pos-init c = search along_laws
 pub try_position-found-requires : goal.try_position-found-requires
 try_position-found-requires c = record { fit = c.loop-pos.invariant.fit; depot_id_bound = (c.loop-pos.invariant.home, c.loop-pos.invariant.there, search rules, c.loop-pos.invariant.stops, c.loop-pos.invariant.room, c.loop-pos.invariant.asked) }
 
-pub overflow_add-pos : goal.overflow_add-pos
-overflow_add-pos c = search along_laws
-
 pub loop-pos-preserved : goal.loop-pos-preserved
 loop-pos-preserved c = along_more _ _ _ _ _ _ _ _ _ c.loop-pos.invariant _ (omega arith) c.try_position-found.ensures
 
 pub returns : goal.returns
-returns c = search along_laws
+returns c = along_end _ _ _ _ _ _ _ _ _ c.loop-pos.invariant (omega arith)

@@ -13,8 +13,8 @@ try_positions-requires c = record { fit = c.requires.admitted.fit; depot_id_boun
 pub returns-then-in_time : goal.returns-then-in_time
 returns-then-in_time c = search route_laws
 
-pub returns-then-room : goal.returns-then-room
-returns-then-room c = search route_laws
+pub returns-then-not-room : goal.returns-then-not-room
+returns-then-not-room c = search route_laws
 
-pub returns : goal.returns
-returns c = search route_laws
+pub returns-else-in_time : goal.returns-else-in_time
+returns-else-in_time c = search route_laws

@@ -5,5 +5,5 @@ use Rattle.route_order.proofs.considered.Goals as goal
 pub returns-then-is_after : goal.returns-then-is_after
 returns-then-is_after c = search considered_laws
 
-pub returns : goal.returns
-returns c = search considered_laws
+pub returns-else-is_after : goal.returns-else-is_after
+returns-else-is_after c = search considered_laws

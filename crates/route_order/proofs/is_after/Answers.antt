@@ -2,11 +2,11 @@
 use Rattle.route_order.proofs.OrderLaws.{after_laws}
 use Rattle.route_order.proofs.is_after.Goals as goal
 
-pub returns-in-Nothing : goal.returns-in-Nothing
-returns-in-Nothing c = search after_laws
+pub returns-in-None : goal.returns-in-None
+returns-in-None c = search after_laws
 
-pub returns-then-l-n : goal.returns-then-l-n
-returns-then-l-n c = search after_laws
+pub returns-then-p-n : goal.returns-then-p-n
+returns-then-p-n c = search after_laws
 
-pub returns-else-l-n : goal.returns-else-l-n
-returns-else-l-n c = search after_laws
+pub returns-else-p-n : goal.returns-else-p-n
+returns-else-p-n c = search after_laws

@@ -1,5 +1,4 @@
 -- `next_pick` meets its contract: what the check does not find alone.
-use Prim.Native.Nat.{◌-◌}
 use Rattle.route_order.proofs.OrderLaws.{looking_laws}
 use Rattle.route_order.proofs.next_pick.Goals as goal
 

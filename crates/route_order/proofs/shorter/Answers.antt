@@ -2,11 +2,11 @@
 use Rattle.route_order.proofs.OrderLaws.{shorter_laws}
 use Rattle.route_order.proofs.shorter.Goals as goal
 
-pub returns-in-Nothing : goal.returns-in-Nothing
-returns-in-Nothing c = search shorter_laws
+pub returns-in-None : goal.returns-in-None
+returns-in-None c = search shorter_laws
 
-pub returns-then-n-l : goal.returns-then-n-l
-returns-then-n-l c = search shorter_laws
+pub returns-then-n-p : goal.returns-then-n-p
+returns-then-n-p c = search shorter_laws
 
-pub returns-else-n-l : goal.returns-else-n-l
-returns-else-n-l c = search shorter_laws
+pub returns-else-n-p : goal.returns-else-n-p
+returns-else-n-p c = search shorter_laws

@@ -1,9 +1,13 @@
 -- `effective_cost` meets its contract: what the check does not find alone.
-use Rattle.route_worth.proofs.EvalLaws.{cost_laws}
+use Rattle.std.proofs.Common.{arith}
+use Rattle.std.proofs.lemmas.Grind.{common_steps}
+use Rattle.route_drive.specs.evaluation.Eval.{effective_cost}
 use Rattle.route_worth.proofs.effective_cost.Goals as goal
 
-pub returns-in_default : goal.returns-in_default
-returns-in_default c = search cost_laws
+pub returns-in-Some : goal.returns-in-Some
+unfolding effective_cost
+returns-in-Some c = grind (arith, common_steps)
 
-pub returns : goal.returns
-returns c = search cost_laws
+pub returns-in-None : goal.returns-in-None
+unfolding effective_cost
+returns-in-None c = grind (arith, common_steps)

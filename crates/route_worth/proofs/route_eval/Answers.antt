@@ -1,19 +1,21 @@
 -- `route_eval` meets its contract: what the check does not find alone.
-use borrow.Author.Rules.{rules}
-use Rattle.route_worth.proofs.EvalLaws.{eval_laws, drive_ends}
+use Rattle.std.proofs.Common.{arith, rules}
+use Rattle.std.proofs.lemmas.Grind.{common_steps}
+use Rattle.route_worth.proofs.EvalLaws.{drive_ends}
+use Rattle.route_drive.specs.evaluation.Eval.{route_eval}
 use Rattle.route_worth.proofs.route_eval.Goals as goal
 
-pub drive_all-walked-requires : goal.drive_all-walked-requires
-drive_all-walked-requires c = record { fit = search (rules, drive_ends); prev_lt_n = search (rules, drive_ends) }
+pub returns-in_err-walk : goal.returns-in_err-walk
+unfolding route_eval
+returns-in_err-walk c = grind (arith, common_steps)
 
-pub returns-in_default-walked : goal.returns-in_default-walked
-returns-in_default-walked c = search eval_laws
-
-pub home-requires : goal.home-requires
-home-requires c = record { square = search (rules, drive_ends, c.requires.fit, c.requires.depot_lt_n); prev_lt_n = search (rules, drive_ends, c.requires.fit, c.requires.depot_lt_n) }
+pub home-requires-clause-prev_lt_n : goal.home-requires-clause-prev_lt_n
+home-requires-clause-prev_lt_n c = (search (rules, drive_ends, c.in_ok-walk.was, c.requires.depot_lt_n), c.requires.depot_lt_n.0)
 
 pub returns-in_default : goal.returns-in_default
-returns-in_default c = search eval_laws
+unfolding route_eval
+returns-in_default c = grind (arith, common_steps)
 
 pub returns : goal.returns
-returns c = search eval_laws
+unfolding route_eval
+returns c = grind (arith, common_steps)

@@ -1,5 +1,4 @@
 -- `same_cells` meets its contract: what the check does not find alone.
-use Prim.Native.Nat.{◌-◌}
 use borrow.Author.Rules.{rules}
 use Rattle.same_answers.proofs.CellLaws.{cells_laws}
 use Rattle.same_answers.proofs.same_cells.Goals as goal

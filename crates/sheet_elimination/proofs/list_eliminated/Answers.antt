@@ -7,10 +7,10 @@ pub put_refusal-requires : goal.put_refusal-requires
 put_refusal-requires c = refusal_room _ _ c.requires.in_bounds.0
 
 pub put_listing-requires : goal.put_listing-requires
-put_listing-requires c = let w = eliminate_asks _ _ _ _ _ _ _ c.eliminate-e.ensures.reply c.requires.in_bounds.3 c.requires.in_bounds.4 _ _ _ c.in-Answered.is c.requires.short (omega (arith, c.eliminate-e.auto.lengths, c.requires.in_bounds.1)) (omega (arith, c.eliminate-e.auto.stops, c.requires.in_bounds.2)) c.eliminate-e.auto.lengths _ c.requires.in_bounds.0 in record { room = w.0; n_bound = w.1.0; depot_id_bound = w.1.1.0; all = w.1.1.1 }
+put_listing-requires c = let w = eliminate_asks _ _ _ _ _ _ _ c.eliminate-e.ensures.reply c.requires.in_bounds.3 c.requires.in_bounds.4 _ _ _ c.in-Ok.is c.requires.short (omega (arith, c.eliminate-e.auto.lengths, c.requires.in_bounds.1)) (omega (arith, c.eliminate-e.auto.stops, c.requires.in_bounds.2)) c.eliminate-e.auto.lengths _ c.requires.in_bounds.0 in record { room = w.0; n_bound = w.1.0; depot_id_bound = w.1.1.0; all = w.1.1.1 }
 
-pub returns-in-Refused : goal.returns-in-Refused
-returns-in-Refused c = written_as c.put_refusal.ensures (eliminate_refuses _ _ _ _ _ _ _ c.eliminate-e.ensures.reply c.requires.in_bounds.3 c.requires.in_bounds.4 _ _ _ c.in-Refused.is)
+pub returns-in-Err : goal.returns-in-Err
+returns-in-Err c = written_as c.put_refusal.ensures (eliminate_refuses _ _ _ _ _ _ _ c.eliminate-e.ensures.reply c.requires.in_bounds.3 c.requires.in_bounds.4 _ _ _ _ c.in-Err.is c.number.ensures)
 
-pub returns-in-Answered : goal.returns-in-Answered
-returns-in-Answered c = written_as c.put_listing.ensures (eliminate_lists _ _ _ _ _ _ _ c.eliminate-e.ensures.reply c.requires.in_bounds.3 c.requires.in_bounds.4 _ _ _ c.in-Answered.is)
+pub returns-in-Ok : goal.returns-in-Ok
+returns-in-Ok c = written_as c.put_listing.ensures (eliminate_lists _ _ _ _ _ _ _ c.eliminate-e.ensures.reply c.requires.in_bounds.3 c.requires.in_bounds.4 _ _ _ c.in-Ok.is)

@@ -1,16 +1,14 @@
 -- `word` meets its contract: what the check does not find alone.
-use Prim.Native.Nat.{◌-◌}
 use mathlib.Core.Path.{sym, ◌∙◌}
-use borrow.Author.Rules.{rules}
 use Rattle.sheet_text.proofs.TextLaws.{word_done, word_more, word_differs}
-use Rattle.sheet_text.proofs.ReadLaws.{next_at, next_bad}
+use Rattle.sheet_text.proofs.ReadLaws.{none_next}
 use Rattle.sheet_headings.proofs.word.Goals as goal
 
-pub returns-in_default : goal.returns-in_default
-returns-in_default c = sym (c.loop-j.invariant.0 ∙ word_differs _ _ _ c.loop-j.j (search rules) (next_bad _ _ c.in_default.is c.byte.ensures))
+pub returns-in_err-i : goal.returns-in_err-i
+returns-in_err-i c = none_next _ _ c.from_residual.ensures (sym (c.loop-b.invariant ∙ word_differs _ _ _ c.loop-b.b-index c.loop-b-test.true c.in_err-i.ensures))
 
-pub loop-j-preserved : goal.loop-j-preserved
-loop-j-preserved c = let l = c.loop-j in (l.invariant.0 ∙ word_more _ _ _ l.j (search rules) _ (next_at _ _ _ c.in-At.is c.byte.ensures), search rules)
+pub loop-b-preserved : goal.loop-b-preserved
+loop-b-preserved c = c.loop-b.invariant ∙ word_more _ _ _ c.loop-b.b-index c.loop-b-test.true _ c.in_ok-i.ensures
 
 pub returns : goal.returns
-returns c = sym (c.loop-j.invariant.0 ∙ word_done _ _ _ c.loop-j.j c.loop-j-test.false)
+returns c = sym (c.loop-b.invariant ∙ word_done _ _ _ c.loop-b.b-index c.loop-b-test.false)

@@ -1,32 +1,40 @@
 -- `problem` meets its contract: what the check does not find alone.
-use mathlib.Core.Path.{subst}
+use Prim.Native.Nat.{◌≤◌}
 use native.Mathlib.Omega.{arith}
-use Rattle.sheet_problem.proofs.ProblemLaws.{square_fits, no_vehicle, no_places, no_roads, no_break, problem_got}
-use Rattle.sheet_roads.specs.sheet_reader.Cells.{AtMost, filled_places}
-use Rattle.sheet_roads.specs.Roads.{filled_roads}
-use Rattle.sheet_vehicle.specs.Told.{told_vehicle}
-use Rattle.sheet_rest.specs.Told.{told_rest}
-use Rattle.sheet_vehicle.specs.SheetTextReadLaws.{told}
+use Rattle.sheet_problem.proofs.ProblemLaws.{square_fits, no_problem_within, no_vehicle, no_places, no_roads, no_break, problem_got}
+use Rattle.sheet_vehicle.specs.SheetTextReadLaws.{err_mapped}
 use Rattle.sheet_problem.proofs.problem.Goals as goal
 
-pub roads-m-requires : goal.roads-m-requires
-roads-m-requires c = let few = subst (AtMost 64) c.in-Got-p.is c.places-p.ensures.at_most in
+pub roads-requires : goal.roads-requires
+roads-requires c = let few : c.in_ok-n.n ≤ 64 = c.in_ok-n.ensures.at_most in
     record { n_in_bounds = square_fits _ _ few c.requires.in_bounds; n_in_bounds_2 = square_fits _ _ few c.requires.in_bounds_2 }
 
-pub returns-in-Refused : goal.returns-in-Refused
-returns-in-Refused c = record { result_after = no_vehicle _ _ _ (told told_vehicle c.in-Refused.is c.vehicle-v.ensures); problem_within = tt }
+pub returns-in_err-van : goal.returns-in_err-van
+returns-in_err-van c = record {
+  result_after = err_mapped _ _ _ _ c.from_residual.ensures.1 (no_vehicle _ _ _ c.in_err-van.ensures);
+  problem_within = no_problem_within _ _ c.from_residual.ensures.1;
+}
 
-pub returns-in-Refused-p : goal.returns-in-Refused-p
-returns-in-Refused-p c = record { result_after = no_places _ _ _ _ (told told_vehicle c.in-Got.is c.vehicle-v.ensures) _ (told (filled_places _) c.in-Refused-p.is c.places-p.ensures.result_after); problem_within = tt }
+pub returns-in_err-n : goal.returns-in_err-n
+returns-in_err-n c = record {
+  result_after = err_mapped _ _ _ _ c.from_residual-in_err-n.ensures.1 (no_places _ _ _ _ c.in_ok-van.ensures _ c.in_err-n.ensures.result_after);
+  problem_within = no_problem_within _ _ c.from_residual-in_err-n.ensures.1;
+}
 
-pub returns-in-Refused-m : goal.returns-in-Refused-m
-returns-in-Refused-m c = let few = subst (AtMost 64) c.in-Got-p.is c.places-p.ensures.at_most in
-    record { result_after = no_roads _ _ _ _ (told told_vehicle c.in-Got.is c.vehicle-v.ensures) _ _ _ (omega (arith, few, c.requires.room.demands, c.places-p.auto.demand)) (told (filled_places _) c.in-Got-p.is c.places-p.ensures.result_after) _ (told (filled_roads _ _ _) c.in-Refused-m.is c.roads-m.ensures.result_after); problem_within = tt }
+pub returns-in_err-timed : goal.returns-in_err-timed
+returns-in_err-timed c = let few : c.in_ok-n.n ≤ 64 = c.in_ok-n.ensures.at_most in record {
+  result_after = err_mapped _ _ _ _ c.from_residual-in_err-timed.ensures.1 (no_roads _ _ _ _ c.in_ok-van.ensures _ _ _ (omega (arith, few, c.requires.room.demands, c.places.auto.demand)) c.in_ok-n.ensures.result_after _ c.in_err-timed.ensures.result_after);
+  problem_within = no_problem_within _ _ c.from_residual-in_err-timed.ensures.1;
+}
 
-pub returns-in-Refused-b : goal.returns-in-Refused-b
-returns-in-Refused-b c = let few = subst (AtMost 64) c.in-Got-p.is c.places-p.ensures.at_most in
-    record { result_after = no_break _ _ _ _ (told told_vehicle c.in-Got.is c.vehicle-v.ensures) _ _ _ (omega (arith, few, c.requires.room.demands, c.places-p.auto.demand)) (told (filled_places _) c.in-Got-p.is c.places-p.ensures.result_after) _ _ (told (filled_roads _ _ _) c.in-Got-m.is c.roads-m.ensures.result_after) _ (told told_rest c.in-Refused-b.is c.rest-b.ensures); problem_within = tt }
+pub returns-in_err-pause : goal.returns-in_err-pause
+returns-in_err-pause c = let few : c.in_ok-n.n ≤ 64 = c.in_ok-n.ensures.at_most in record {
+  result_after = err_mapped _ _ _ _ c.from_residual-in_err-pause.ensures.1 (no_break _ _ _ _ c.in_ok-van.ensures _ _ _ (omega (arith, few, c.requires.room.demands, c.places.auto.demand)) c.in_ok-n.ensures.result_after _ _ c.in_ok-timed.ensures.result_after _ c.in_err-pause.ensures);
+  problem_within = no_problem_within _ _ c.from_residual-in_err-pause.ensures.1;
+}
 
-pub returns-in-Got-b : goal.returns-in-Got-b
-returns-in-Got-b c = let few = subst (AtMost 64) c.in-Got-p.is c.places-p.ensures.at_most in
-    record { result_after = problem_got _ _ _ _ (told told_vehicle c.in-Got.is c.vehicle-v.ensures) _ _ _ (omega (arith, few, c.requires.room.demands, c.places-p.auto.demand)) (told (filled_places _) c.in-Got-p.is c.places-p.ensures.result_after) c.roads-m.new.distance_cells c.roads-m.new.time_cells c.in-Got-m.timed _ (told (filled_roads _ _ _) c.in-Got-m.is c.roads-m.ensures.result_after) _ _ _ (told told_rest c.in-Got-b.is c.rest-b.ensures) c.with_rest-vehicle.ensures; problem_within = (few, subst (AtMost _) c.in-Got-m.is c.roads-m.ensures.at_most) }
+pub returns : goal.returns
+returns c = let few : c.in_ok-n.n ≤ 64 = c.in_ok-n.ensures.at_most in record {
+  result_after = problem_got _ _ _ _ c.in_ok-van.ensures _ _ _ (omega (arith, few, c.requires.room.demands, c.places.auto.demand)) c.in_ok-n.ensures.result_after c.roads.new.distance_cells c.roads.new.time_cells c.in_ok-timed.timed _ c.in_ok-timed.ensures.result_after _ _ _ c.in_ok-pause.ensures c.with_rest-vehicle.ensures;
+  problem_within = (few, c.in_ok-timed.ensures.at_most);
+}

@@ -1,20 +1,20 @@
 -- `rest_line` meets its contract: what the check does not find alone.
 use Rattle.sheet_format.specs.Form.{rest_line}
-use Rattle.sheet_format.specs.SheetTextReadLaws.{readings}
+use Rattle.sheet_format.specs.SheetTextReadLaws.{none_option}
 use Rattle.sheet_rest.proofs.rest_line.Goals as goal
 
-pub returns-in_default : goal.returns-in_default
+pub returns-in_err-earliest : goal.returns-in_err-earliest
 unfolding rest_line
-returns-in_default c = search readings depth 8
+returns-in_err-earliest c = none_option _ _ c.from_residual.ensures (rw (← c.in_err-earliest.ensures))
 
-pub returns-in_default-number_before : goal.returns-in_default-number_before
+pub returns-in_err-latest : goal.returns-in_err-latest
 unfolding rest_line
-returns-in_default-number_before c = search readings depth 8
+returns-in_err-latest c = none_option _ _ c.from_residual-in_err-latest.ensures (rw (← c.in_ok-earliest.ensures, ← c.in_err-latest.ensures))
 
-pub returns-in_default-number_before-2 : goal.returns-in_default-number_before-2
+pub returns-in_err-duration : goal.returns-in_err-duration
 unfolding rest_line
-returns-in_default-number_before-2 c = search readings depth 8
+returns-in_err-duration c = none_option _ _ c.from_residual-in_err-duration.ensures (rw (← c.in_ok-earliest.ensures, ← c.in_ok-latest.ensures, ← c.in_err-duration.ensures))
 
 pub returns : goal.returns
 unfolding rest_line
-returns c = search readings depth 8
+returns c = rw (← c.in_ok-earliest.ensures, ← c.in_ok-latest.ensures, ← c.in_ok-duration.ensures)

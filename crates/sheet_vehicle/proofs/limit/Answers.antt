@@ -1,16 +1,14 @@
 -- `limit` meets its contract: what the check does not find alone.
+use mathlib.Core.Path.{ap}
+use Rattle.sheet_format.specs.sheet_text.Text.{got}
+use Rattle.sheet_format.specs.SheetTextReadLaws.{none_option}
 use Rattle.sheet_format.specs.Form.{limit}
-use Rattle.sheet_format.specs.SheetTextReadLaws.{readings}
 use Rattle.sheet_vehicle.proofs.limit.Goals as goal
 
-pub returns-in-Got : goal.returns-in-Got
+pub returns-in_err-most : goal.returns-in_err-most
 unfolding limit
-returns-in-Got c = search readings depth 8
+returns-in_err-most c = none_option _ _ c.from_residual.ensures (rw (← c.in_err-most.ensures))
 
-pub returns-in-Nothing : goal.returns-in-Nothing
+pub returns : goal.returns
 unfolding limit
-returns-in-Nothing c = search readings depth 8
-
-pub returns-in-Bad : goal.returns-in-Bad
-unfolding limit
-returns-in-Bad c = search readings depth 8
+returns c = rw (← c.in_ok-most.ensures) (ap (λ o. got o c.in_ok-most.i) c.float_of.ensures)

@@ -1,51 +1,39 @@
 -- `vehicle_line` meets its contract: what the check does not find alone.
+use borrow.Author.Rules.{rules}
 use borrow.Author.Tests.{eq-eqb, ne_eqb}
-use Rattle.sheet_vehicle.proofs.VehicleLaws.{same_vehicle, limit_bad, on_limit}
-use Rattle.sheet_format.specs.SheetTextReadLaws.{next_refused, check_false, number_bad, signed_bad, on_signed, on_number, on_check}
+use Rattle.sheet_vehicle.proofs.VehicleLaws.{same_vehicle}
+use Rattle.sheet_format.specs.SheetTextReadLaws.{none_option}
 use Rattle.sheet_format.specs.Form.{vehicle_line}
 use Rattle.sheet_vehicle.proofs.vehicle_line.Goals as goal
 
-pub returns-in_default : goal.returns-in_default
+pub returns-in_err-capacity : goal.returns-in_err-capacity
 unfolding vehicle_line
-returns-in_default c = search (next_refused, signed_bad)
+returns-in_err-capacity c = none_option _ _ c.from_residual.ensures (rw (← c.in_err-capacity.ensures))
 
-pub returns-in_default-number_before : goal.returns-in_default-number_before
+pub returns-in_err-depot : goal.returns-in_err-depot
 unfolding vehicle_line
-returns-in_default-number_before c = search (on_signed, next_refused, number_bad)
+returns-in_err-depot c = none_option _ _ c.from_residual-in_err-depot.ensures (rw (← c.in_ok-capacity.ensures, ← c.in_err-depot.ensures))
 
-pub returns-then-depot-ne0 : goal.returns-then-depot-ne0
+pub returns-then-depot-ne-DEPOT : goal.returns-then-depot-ne-DEPOT
 unfolding vehicle_line
-returns-then-depot-ne0 c = search (on_signed, on_number, next_refused, check_false, ne_eqb)
+returns-then-depot-ne-DEPOT c = rw (← c.in_ok-capacity.ensures, ← c.in_ok-depot.ensures, ne_eqb c.in_ok-depot.depot 0 c.if-depot-ne-DEPOT.true)
 
-pub returns-in_default-number_before-2 : goal.returns-in_default-number_before-2
+pub returns-in_err-fixed : goal.returns-in_err-fixed
 unfolding vehicle_line
-returns-in_default-number_before-2 c = search (on_signed, on_number, on_check, eq-eqb, next_refused, number_bad) depth 8
+returns-in_err-fixed c = none_option _ _ c.from_residual-in_err-fixed.ensures (rw (← c.in_ok-capacity.ensures, ← c.in_ok-depot.ensures, eq-eqb c.in_ok-depot.depot 0 c.if-depot-ne-DEPOT.false, ← c.in_err-fixed.ensures))
 
-pub returns-in_default-number_before-3 : goal.returns-in_default-number_before-3
+pub returns-in_err-per : goal.returns-in_err-per
 unfolding vehicle_line
-returns-in_default-number_before-3 c = search (on_signed, on_number, on_check, eq-eqb, next_refused, number_bad) depth 8
+returns-in_err-per c = none_option _ _ c.from_residual-in_err-per.ensures (rw (← c.in_ok-capacity.ensures, ← c.in_ok-depot.ensures, eq-eqb c.in_ok-depot.depot 0 c.if-depot-ne-DEPOT.false, ← c.in_ok-fixed.ensures, ← c.in_err-per.ensures))
 
-pub returns-in_default-limit : goal.returns-in_default-limit
+pub returns-in_err-max_distance : goal.returns-in_err-max_distance
 unfolding vehicle_line
-returns-in_default-limit c = search (on_signed, on_number, on_check, eq-eqb, next_refused, limit_bad) depth 9
+returns-in_err-max_distance c = none_option _ _ c.from_residual-in_err-max_distance.ensures (rw (← c.in_ok-capacity.ensures, ← c.in_ok-depot.ensures, eq-eqb c.in_ok-depot.depot 0 c.if-depot-ne-DEPOT.false, ← c.in_ok-fixed.ensures, ← c.in_ok-per.ensures, ← c.in_err-max_distance.ensures))
 
-pub returns-in_default-limit-2 : goal.returns-in_default-limit-2
+pub returns-in_err-max_duration : goal.returns-in_err-max_duration
 unfolding vehicle_line
-returns-in_default-limit-2 c = on_signed _ _ _ _ _ _ c.signed_before.ensures c.in-Got.is
-    (on_number _ _ _ _ _ _ c.number_before.ensures c.in-Got-number_before.is
-    (on_check _ _ _ _ _ _ (eq-eqb _ _ c.if-depot-ne0.false)
-    (on_number _ _ _ _ _ _ c.number_before-2.ensures c.in-Got-number_before-2.is
-    (on_number _ _ _ _ _ _ c.number_before-3.ensures c.in-Got-number_before-3.is
-    (on_limit _ _ _ _ _ _ c.limit.ensures c.in-Got-limit.is
-    (next_refused _ _ _ (limit_bad _ _ c.in_default-limit-2.is c.limit-2.ensures)))))))
+returns-in_err-max_duration c = none_option _ _ c.from_residual-in_err-max_duration.ensures (rw (← c.in_ok-capacity.ensures, ← c.in_ok-depot.ensures, eq-eqb c.in_ok-depot.depot 0 c.if-depot-ne-DEPOT.false, ← c.in_ok-fixed.ensures, ← c.in_ok-per.ensures, ← c.in_ok-max_distance.ensures, ← c.in_err-max_duration.ensures))
 
 pub returns : goal.returns
 unfolding vehicle_line
-returns c = on_signed _ _ _ _ _ _ c.signed_before.ensures c.in-Got.is
-    (on_number _ _ _ _ _ _ c.number_before.ensures c.in-Got-number_before.is
-    (on_check _ _ _ _ _ _ (eq-eqb _ _ c.if-depot-ne0.false)
-    (on_number _ _ _ _ _ _ c.number_before-2.ensures c.in-Got-number_before-2.is
-    (on_number _ _ _ _ _ _ c.number_before-3.ensures c.in-Got-number_before-3.is
-    (on_limit _ _ _ _ _ _ c.limit.ensures c.in-Got-limit.is
-    (on_limit _ _ _ _ _ _ c.limit-2.ensures c.in-Got-limit-2.is
-    (same_vehicle _ _ _ _ _ _ (record { sfits = c.in-Got.known_told-1-own.given.0.1 }))))))))
+returns c = rw (← c.in_ok-capacity.ensures, ← c.in_ok-depot.ensures, eq-eqb c.in_ok-depot.depot 0 c.if-depot-ne-DEPOT.false, ← c.in_ok-fixed.ensures, ← c.in_ok-per.ensures, ← c.in_ok-max_distance.ensures, ← c.in_ok-max_duration.ensures) (same_vehicle _ _ _ _ _ _ (search rules))

@@ -1,5 +1,4 @@
 -- `stops_pass` meets its contract: what the check does not find alone.
-use Prim.Native.Nat.{◌-◌}
 use Rattle.length_checks.specs.BreakClockStopLaws.{part_laws}
 use Rattle.length_checks.specs.laws.Passed.{every_laws}
 use Rattle.length_checks.specs.entry.Table.{stop_passes, stops_pass}
@@ -27,12 +26,6 @@ stop_passes-requires c = search every_laws
 pub returns-then-not-stop_passes : goal.returns-then-not-stop_passes
 unfolding stops_pass
 returns-then-not-stop_passes c = search every_laws
-
-pub overflow_add-i : goal.overflow_add-i
-overflow_add-i c = search every_laws
-
-pub loop-i-smaller : goal.loop-i-smaller
-loop-i-smaller c = search every_laws
 
 pub loop-i-preserved : goal.loop-i-preserved
 loop-i-preserved c = (search every_laws, search (every_laws, marks_more))

@@ -1,5 +1,4 @@
--- What the loops of `stops_pass` keep.
-use Prim.Native.Nat.{◌-◌}
+-- What the loop of `stops_pass` keeps.
 use mathlib.Core.List.{[]}
 use lib.ListN.{length, get_or, take}
 use Rattle.length_checks.specs.laws.Passed.{Passed}
@@ -10,6 +9,3 @@ use Rattle.stop_checks.proofs.stops_pass.Given as goal
 
 abbrev pub invariant-loop-i : goal.invariant-loop-i
 invariant-loop-i l = Passed (λ k. stop_passes (of_distances l.n [] l.vehicle) (take k l.stops) (get_or l.stops k 0)) (length l.stops) l.i × Marks l.seen (take l.i l.stops)
-
-abbrev pub decreases-loop-i : goal.decreases-loop-i
-decreases-loop-i l = length l.stops - l.i

@@ -2,8 +2,8 @@
 use Rattle.stored_answers.proofs.AnswerLaws.{arms}
 use Rattle.stored_answers.proofs.of_eval.Goals as goal
 
-pub returns-in-Infeasible : goal.returns-in-Infeasible
-returns-in-Infeasible c = search arms
+pub returns-in-None : goal.returns-in-None
+returns-in-None c = search arms
 
-pub returns-in-Feasible : goal.returns-in-Feasible
-returns-in-Feasible c = search arms
+pub returns-in-Some : goal.returns-in-Some
+returns-in-Some c = search arms

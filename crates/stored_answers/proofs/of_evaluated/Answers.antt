@@ -2,8 +2,8 @@
 use Rattle.stored_answers.proofs.AnswerLaws.{arms}
 use Rattle.stored_answers.proofs.of_evaluated.Goals as goal
 
-pub returns-in-Refused : goal.returns-in-Refused
-returns-in-Refused c = search arms
+pub returns-in-Err : goal.returns-in-Err
+returns-in-Err c = search arms
 
-pub returns-in-Answered : goal.returns-in-Answered
-returns-in-Answered c = search arms
+pub returns-in-Ok : goal.returns-in-Ok
+returns-in-Ok c = search arms

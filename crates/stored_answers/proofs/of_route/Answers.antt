@@ -2,8 +2,8 @@
 use Rattle.stored_answers.proofs.AnswerLaws.{arms}
 use Rattle.stored_answers.proofs.of_route.Goals as goal
 
-pub returns-in-No : goal.returns-in-No
-returns-in-No c = search arms
+pub returns-in-None : goal.returns-in-None
+returns-in-None c = search arms
 
-pub returns-in-At : goal.returns-in-At
-returns-in-At c = search arms
+pub returns-in-Some : goal.returns-in-Some
+returns-in-Some c = search arms

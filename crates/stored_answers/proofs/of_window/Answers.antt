@@ -5,5 +5,5 @@ use Rattle.stored_answers.proofs.of_window.Goals as goal
 pub returns-in-None : goal.returns-in-None
 returns-in-None c = search arms
 
-pub returns-in-Is : goal.returns-in-Is
-returns-in-Is c = search arms
+pub returns-in-Some : goal.returns-in-Some
+returns-in-Some c = search arms

@@ -6,8 +6,8 @@ use Rattle.trial_route.proofs.trial_feasible.Goals as goal
 pub returns-in_default-walked : goal.returns-in_default-walked
 returns-in_default-walked c = search trial_feasible_laws
 
-pub home_allowed-requires : goal.home_allowed-requires
-home_allowed-requires c = record { square = c.requires.fit.square; prev_lt_n = (search (trial_there, c.requires.depot_lt_n.0, c.requires.depot_lt_n.1, c.requires.depot_lt_n.3, c.trial_reached-walked, c.in-At.known_told-in-At-1-own), c.requires.depot_lt_n.0) }
+pub home_allowed-requires-clause-prev_lt_n : goal.home_allowed-requires-clause-prev_lt_n
+home_allowed-requires-clause-prev_lt_n c = (search (trial_there, c.requires.depot_lt_n, c.trial_reached-walked), c.requires.depot_lt_n.0)
 
 pub returns-in_default : goal.returns-in_default
 returns-in_default c = search trial_feasible_laws
@@ -15,8 +15,8 @@ returns-in_default c = search trial_feasible_laws
 pub returns-in_default-ridden : goal.returns-in_default-ridden
 returns-in_default-ridden c = search trial_feasible_laws
 
-pub ride_home-e-requires : goal.ride_home-e-requires
-ride_home-e-requires c = record { square = c.requires.fit.square; prev_lt_n = (search (ride_there, c.requires.depot_lt_n.0, c.requires.depot_lt_n.1, c.requires.depot_lt_n.3, c.trial_ridden-ridden, c.in-At-ridden.known_told-in-At-ridden-1-own), c.requires.depot_lt_n.0) }
+pub ride_home-e-requires-clause-prev_lt_n : goal.ride_home-e-requires-clause-prev_lt_n
+ride_home-e-requires-clause-prev_lt_n c = (search (ride_there, c.requires.depot_lt_n, c.trial_ridden-ridden), c.requires.depot_lt_n.0)
 
 pub returns : goal.returns
 returns c = search trial_feasible_laws

@@ -1,19 +1,19 @@
 -- `trial_reached` meets its contract: what the check does not find alone.
-use borrow.Author.Rules.{rules}
-use Rattle.route_checks.specs.EvaluationCheckLaws.{front_there, reach_there, trial_laws}
+use Rattle.std.proofs.Common.{rules}
+use Rattle.route_checks.specs.EvaluationCheckLaws.{front_there, reach_there, trial_front, trial_stop, trial_tail}
 use Rattle.trial_route.proofs.trial_reached.Goals as goal
 
-pub returns-in_default : goal.returns-in_default
-returns-in_default c = search trial_laws
+pub returns-in_err-before : goal.returns-in_err-before
+returns-in_err-before c = search (rules, trial_front)
 
-pub reach-stop-requires : goal.reach-stop-requires
-reach-stop-requires c = record { fit = search (rules, front_there, c.requires.fit, c.requires.depot_lt_n); prev_lt_n = search (rules, front_there, c.requires.fit, c.requires.depot_lt_n) }
+pub reach-requires-clause-prev_lt_n : goal.reach-requires-clause-prev_lt_n
+reach-requires-clause-prev_lt_n c = (search (front_there, c.requires.depot_lt_n, c.in_ok-before.was, c.reach_front.ensures), c.requires.depot_lt_n.1)
 
-pub returns-in_default-stop : goal.returns-in_default-stop
-returns-in_default-stop c = search trial_laws
+pub returns-in_err-after : goal.returns-in_err-after
+returns-in_err-after c = search (rules, trial_stop)
 
-pub reach_tail-requires : goal.reach_tail-requires
-reach_tail-requires c = record { fit = search (rules, reach_there, c.requires.fit, c.requires.depot_lt_n); prev_lt_n = search (rules, reach_there, c.requires.fit, c.requires.depot_lt_n) }
+pub reach_tail-requires-clause-prev_lt_n : goal.reach_tail-requires-clause-prev_lt_n
+reach_tail-requires-clause-prev_lt_n c = (search (reach_there, c.requires.depot_lt_n, c.in_ok-after.was, c.reach.ensures), c.requires.depot_lt_n.2, c.requires.depot_lt_n.3)
 
 pub returns : goal.returns
-returns c = search trial_laws
+returns c = search (trial_tail, c.in_ok-before.was, c.in_ok-after.was, c.reach_front.ensures, c.reach.ensures)

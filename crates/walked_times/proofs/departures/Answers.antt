@@ -6,8 +6,8 @@ use Rattle.walked_times.proofs.departures.Goals as goal
 pub loop-i-init : goal.loop-i-init
 loop-i-init c = search leaving_laws
 
-pub leave-done-requires : goal.leave-done-requires
-leave-done-requires c = record { fit = search leaving_needs; prev_lt_n = search leaving_needs }
+pub leave-requires : goal.leave-requires
+leave-requires c = record { fit = search leaving_needs; prev_lt_n = search leaving_needs }
 
 pub returns-in_default : goal.returns-in_default
 returns-in_default c = search leaving_laws
@@ -17,9 +17,6 @@ offset_bounds-out-i c = search leaving_needs
 
 pub bounds-out-i : goal.bounds-out-i
 bounds-out-i c = search leaving_needs
-
-pub overflow_add-i : goal.overflow_add-i
-overflow_add-i c = search leaving_needs
 
 pub loop-i-preserved : goal.loop-i-preserved
 loop-i-preserved c = search leaving_laws

@@ -6,9 +6,6 @@ use Rattle.walked_times.proofs.latest_arrivals.Goals as goal
 pub loop-i-init : goal.loop-i-init
 loop-i-init c = search backing_laws
 
-pub overflow_sub-i : goal.overflow_sub-i
-overflow_sub-i c = search backing_needs
-
 pub offset_bounds-route-i : goal.offset_bounds-route-i
 offset_bounds-route-i c = search backing_needs
 

@@ -7,6 +7,3 @@ use Rattle.walked_times.proofs.latest_arrivals.Given as goal
 
 abbrev pub invariant-loop-i : goal.invariant-loop-i
 invariant-loop-i l = Backing (customers l.service l.ready l.due l.penalty l.flags) (matrix l.n l.distances l.times) l.depot l.route l.initial.out l.out l.by l.next l.i
-
-abbrev pub decreases-loop-i : goal.decreases-loop-i
-decreases-loop-i l = l.i

@@ -1,13 +1,6 @@
 -- `bound::dearest_penalty` meets its contract: what the check does not find alone.
-use Prim.Native.Nat.{◌-◌}
 use Rattle.lateness_bound.proofs.BoundLaws.{place_laws}
 use Rattle.lateness_bound.proofs.bound.dearest_penalty.Goals as goal
 
-pub loop-c-init : goal.loop-c-init
-loop-c-init c = search place_laws
-
 pub loop-c-preserved : goal.loop-c-preserved
 loop-c-preserved c = search place_laws
-
-pub returns : goal.returns
-returns c = search place_laws

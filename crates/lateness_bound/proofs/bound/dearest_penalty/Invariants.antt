@@ -1,12 +1,7 @@
--- What the loops of `bound::dearest_penalty` keep.
-use Prim.Native.Nat.{◌-◌}
-use lib.ListN.{length}
-use Rattle.lateness_bound.proofs.BoundLaws.{Before}
+-- What the loop of `bound::dearest_penalty` keeps.
 use Rattle.lateness_bound.specs.Bound.{dearer_penalty}
+use Rattle.lateness_bound.proofs.BoundLaws.{Before}
 use Rattle.lateness_bound.proofs.bound.dearest_penalty.Given as goal
 
 abbrev pub invariant-loop-c : goal.invariant-loop-c
 invariant-loop-c l = Before (dearer_penalty l.penalty l.flags) l.flags l.most l.c
-
-abbrev pub decreases-loop-c : goal.decreases-loop-c
-decreases-loop-c l = length l.flags - l.c

@@ -1,12 +1,7 @@
--- What the loops of `bound::latest_window` keep.
-use Prim.Native.Nat.{◌-◌}
-use lib.ListN.{length}
-use Rattle.lateness_bound.proofs.BoundLaws.{Before}
+-- What the loop of `bound::latest_window` keeps.
 use Rattle.lateness_bound.specs.Bound.{later_window}
+use Rattle.lateness_bound.proofs.BoundLaws.{Before}
 use Rattle.lateness_bound.proofs.bound.latest_window.Given as goal
 
 abbrev pub invariant-loop-c : goal.invariant-loop-c
 invariant-loop-c l = Before (later_window l.ready l.due l.flags) l.flags l.most l.c
-
-abbrev pub decreases-loop-c : goal.decreases-loop-c
-decreases-loop-c l = length l.flags - l.c

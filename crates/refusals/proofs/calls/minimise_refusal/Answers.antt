@@ -1,12 +1,15 @@
 -- `calls::minimise_refusal` meets its contract: what the check does not find alone.
-use Rattle.refusals.proofs.RefusalLaws.{minimise_laws}
+use borrow.Author.Rules.{rules}
+use Rattle.std.proofs.lemmas.Result.{err_from_is_err_and}
+use Rattle.refusals.proofs.RefusalLaws.{minimise_laws, minimise_plan}
 use Rattle.refusals.proofs.calls.minimise_refusal.Goals as goal
 
-pub returns-then-r-ne0 : goal.returns-then-r-ne0
-returns-then-r-ne0 c = search minimise_laws
+pub returns-in_err-problem_rows : goal.returns-in_err-problem_rows
+returns-in_err-problem_rows c = search (rules, minimise_laws)
 
-pub returns-then-q-ne0 : goal.returns-then-q-ne0
-returns-then-q-ne0 c = search minimise_laws
+pub returns-in_err-plan_rows : goal.returns-in_err-plan_rows
+returns-in_err-plan_rows c = let p = err_from_is_err_and c.from_residual-in_err-plan_rows.result c.from_residual-in_err-plan_rows.ensures.1 in
+    rw (p.1, p.2) (minimise_plan _ _ _ c.in_ok-problem_rows.ensures _ _ _ c.in_err-plan_rows.ensures)
 
 pub returns : goal.returns
-returns c = search minimise_laws
+returns c = search (rules, minimise_laws)

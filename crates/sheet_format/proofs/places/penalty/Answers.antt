@@ -1,16 +1,14 @@
 -- `places::penalty` meets its contract: what the check does not find alone.
+use mathlib.Core.Path.{ap}
+use Rattle.sheet_fields.specs.sheet_text.Text.{got}
+use Rattle.sheet_fields.specs.SheetTextReadLaws.{none_option}
 use Rattle.sheet_format.specs.Form.{penalty}
-use Rattle.sheet_fields.specs.SheetTextReadLaws.{readings}
 use Rattle.sheet_format.proofs.places.penalty.Goals as goal
 
-pub returns-in-Got : goal.returns-in-Got
+pub returns-in_err-p : goal.returns-in_err-p
 unfolding penalty
-returns-in-Got c = search readings depth 8
+returns-in_err-p c = none_option _ _ c.from_residual.ensures (rw (← c.in_err-p.ensures))
 
-pub returns-in-Nothing : goal.returns-in-Nothing
+pub returns : goal.returns
 unfolding penalty
-returns-in-Nothing c = search readings depth 8
-
-pub returns-in-Bad : goal.returns-in-Bad
-unfolding penalty
-returns-in-Bad c = search readings depth 8
+returns c = rw (← c.in_ok-p.ensures) (ap (λ o. got o c.in_ok-p.i) c.float_of.ensures)

@@ -1,30 +1,26 @@
 -- `places::place_line` meets its contract: what the check does not find alone.
 use borrow.Author.Rules.{rules}
-use Rattle.sheet_format.proofs.LineLaws.{same_place, window_bad, penalty_bad, on_window, on_penalty}
-use Rattle.sheet_fields.specs.SheetTextReadLaws.{next_refused, number_bad, signed_bad, on_signed, on_number}
+use Rattle.sheet_format.proofs.LineLaws.{same_place}
+use Rattle.sheet_fields.specs.SheetTextReadLaws.{none_option}
 use Rattle.sheet_format.specs.Form.{place}
 use Rattle.sheet_format.proofs.places.place_line.Goals as goal
 
-pub returns-in_default : goal.returns-in_default
+pub returns-in_err-demand : goal.returns-in_err-demand
 unfolding place
-returns-in_default c = search (next_refused, signed_bad)
+returns-in_err-demand c = none_option _ _ c.from_residual.ensures (rw (← c.in_err-demand.ensures))
 
-pub returns-in_default-number_before : goal.returns-in_default-number_before
+pub returns-in_err-service : goal.returns-in_err-service
 unfolding place
-returns-in_default-number_before c = search (on_signed, next_refused, number_bad)
+returns-in_err-service c = none_option _ _ c.from_residual-in_err-service.ensures (rw (← c.in_ok-demand.ensures, ← c.in_err-service.ensures))
 
-pub returns-in_default-window_before : goal.returns-in_default-window_before
+pub returns-in_err-time_window : goal.returns-in_err-time_window
 unfolding place
-returns-in_default-window_before c = search (on_signed, on_number, next_refused, window_bad)
+returns-in_err-time_window c = none_option _ _ c.from_residual-in_err-time_window.ensures (rw (← c.in_ok-demand.ensures, ← c.in_ok-service.ensures, ← c.in_err-time_window.ensures))
 
-pub returns-in_default-penalty : goal.returns-in_default-penalty
+pub returns-in_err-lateness_penalty : goal.returns-in_err-lateness_penalty
 unfolding place
-returns-in_default-penalty c = search (on_signed, on_number, on_window, next_refused, penalty_bad) depth 8
+returns-in_err-lateness_penalty c = none_option _ _ c.from_residual-in_err-lateness_penalty.ensures (rw (← c.in_ok-demand.ensures, ← c.in_ok-service.ensures, ← c.in_ok-time_window.ensures, ← c.in_err-lateness_penalty.ensures))
 
 pub returns : goal.returns
 unfolding place
-returns c = on_signed _ _ _ _ _ _ c.signed_before.ensures c.in-Got.is
-    (on_number _ _ _ _ _ _ c.number_before.ensures c.in-Got-number_before.is
-    (on_window _ _ _ _ _ _ c.window_before.ensures c.in-Got-window_before.is
-    (on_penalty _ _ _ _ _ _ c.penalty.ensures c.in-Got-penalty.is
-    (same_place _ _ _ (search rules)))))
+returns c = rw (← c.in_ok-demand.ensures, ← c.in_ok-service.ensures, ← c.in_ok-time_window.ensures, ← c.in_ok-lateness_penalty.ensures) (same_place _ _ _ (search rules))

@@ -1,33 +1,29 @@
 -- `places::window` meets its contract: what the check does not find alone.
-use native.Mathlib.Omega.{arith}
 use Rattle.sheet_format.specs.Form.{window}
 use Rattle.sheet_format.proofs.LineLaws.{lines}
-use Rattle.sheet_fields.specs.SheetTextReadLaws.{readings}
+use Rattle.sheet_fields.specs.SheetTextReadLaws.{none_option, readings}
 use Rattle.sheet_format.proofs.places.window.Goals as goal
 
-pub overflow_add-at : goal.overflow_add-at
-overflow_add-at c = omega (arith, c.peek-x.ensures.at_bound (omega arith))
-
-pub returns-in_default : goal.returns-in_default
+pub returns-in_err-i : goal.returns-in_err-i
 unfolding window
-returns-in_default c = search (readings, lines) depth 8
+returns-in_err-i c = none_option _ _ c.from_residual.ensures (search (lines, readings, c.in_err-i.ensures) depth 8)
 
-pub returns-in_default-byte : goal.returns-in_default-byte
+pub returns-in_err-j : goal.returns-in_err-j
 unfolding window
-returns-in_default-byte c = search (readings, lines) depth 8
+returns-in_err-j c = none_option _ _ c.from_residual-in_err-j.ensures (search (lines, readings, c.in_ok-i.ensures, c.in_err-j.ensures) depth 8)
 
 pub returns-then-x-eq45 : goal.returns-then-x-eq45
 unfolding window
-returns-then-x-eq45 c = search (readings, lines) depth 8
+returns-then-x-eq45 c = search (lines, readings, c.in_ok-i.ensures, c.in_ok-j.ensures) depth 8
 
-pub returns-in_default-number_before : goal.returns-in_default-number_before
+pub returns-in_err-ready : goal.returns-in_err-ready
 unfolding window
-returns-in_default-number_before c = search (readings, lines) depth 8
+returns-in_err-ready c = none_option _ _ c.from_residual-in_err-ready.ensures (search (lines, readings, c.in_err-ready.ensures) depth 8)
 
-pub returns-in_default-number : goal.returns-in_default-number
+pub returns-in_err-due : goal.returns-in_err-due
 unfolding window
-returns-in_default-number c = search (readings, lines) depth 8
+returns-in_err-due c = none_option _ _ c.from_residual-in_err-due.ensures (search (lines, readings, c.in_ok-ready.ensures, c.in_err-due.ensures.result_value) depth 8)
 
 pub returns : goal.returns
 unfolding window
-returns c = search (readings, lines) depth 8
+returns c = search (lines, readings, c.in_ok-ready.ensures, c.in_ok-due.ensures.result_value) depth 8

@@ -1,46 +1,40 @@
 -- `places::place_rows` meets its contract: what the check does not find alone.
-use Prim.Native.Nat.{◌+◌}
-use mathlib.Core.Path.{◌∙◌}
+use Prim.Native.Nat.{◌+◌, ◌-◌}
+use mathlib.Core.Path.{◌≡◌, ◌∙◌}
 use native.Mathlib.Omega.{arith}
-use borrow.Author.Rules.{rules}
 use Rattle.sheet_reader.proofs.PlaceLaws.{room_now, sizes_same, places_start, places_end, places_fault, places_turn}
 use Rattle.sheet_reader.specs.Cells.{columns_of}
-use Rattle.sheet_reader.proofs.SectionLaws.{filled_at, filled_bad}
+use Rattle.sheet_reader.proofs.SectionLaws.{none_filled}
 use Rattle.sheet_cells.specs.sheet_format.Form.{place}
 use Rattle.sheet_cells.specs.sheet_text.Text.{repeat}
 use Rattle.sheet_reader.proofs.places.place_rows.Goals as goal
 
-pub loop-left-init : goal.loop-left-init
-loop-left-init c = (
-  places_start
+pub loop-i-init : goal.loop-i-init
+loop-i-init c = let all : c.args.n - 0 ≡ c.args.n = omega arith in record {
+  read = rw all (places_start
       (columns_of c.args.demand.now c.args.service.now c.args.ready.now c.args.due.now c.args.penalty.now c.args.flags.now)
-      (repeat c.args.n (λ l. place) c.args.s.now c.args.at),
-  search rules,
-  sizes_same _,
-)
+      (repeat c.args.n (λ l. place) c.args.s.now c.args.at));
+  same = sizes_same _;
+}
 
 pub place_row-requires : goal.place_row-requires
-place_row-requires c = room_now _ _ _ (c.loop-left.i + 1) c.requires c.loop-left.invariant.2 (omega (arith, c.loop-left.invariant.1, c.loop-left-test.true))
+place_row-requires c = room_now _ _ _ (c.loop-i.i + 1) c.requires c.loop-i.invariant.same (omega arith)
 
-pub returns-in_default : goal.returns-in_default
-returns-in_default c = places_fault _ _ _ c.loop-left.i c.loop-left.a c.loop-left.left c.loop-left.invariant.0 c.loop-left-test.true (filled_bad _ _ _ c.in_default.is c.place_row.ensures)
+pub returns-in_err-a : goal.returns-in_err-a
+returns-in_err-a c = let l = c.loop-i in none_filled _ _ _ c.from_residual.ensures (places_fault _ _ _ l.i l.a (c.args.n - l.i) l.invariant.read (c.args.n - (l.i + 1)) (omega arith) c.in_err-a.ensures)
 
-pub overflow_add-i : goal.overflow_add-i
-overflow_add-i c = omega (arith, c.loop-left.invariant.1, c.loop-left-test.true)
-
-pub loop-left-preserved : goal.loop-left-preserved
-loop-left-preserved c = (
-  places_turn _ _ _ c.loop-left.i c.loop-left.a c.loop-left.left c.loop-left.invariant.0 c.loop-left-test.true _ _ (filled_at _ _ _ _ c.in-At.is c.place_row.ensures),
-  omega (arith, c.loop-left.invariant.1, c.loop-left-test.true),
-  record {
-    demands = c.place_row.auto.demand ∙ c.loop-left.invariant.2.demands;
-    services = c.place_row.auto.service ∙ c.loop-left.invariant.2.services;
-    readies = c.place_row.auto.ready ∙ c.loop-left.invariant.2.readies;
-    dues = c.place_row.auto.due ∙ c.loop-left.invariant.2.dues;
-    penalties = c.place_row.auto.penalty ∙ c.loop-left.invariant.2.penalties;
-    flag_cells = c.place_row.auto.flags ∙ c.loop-left.invariant.2.flag_cells;
-  },
-)
+pub loop-i-preserved : goal.loop-i-preserved
+loop-i-preserved c = let l = c.loop-i in record {
+  read = places_turn _ _ _ l.i l.a (c.args.n - l.i) l.invariant.read (c.args.n - (l.i + 1)) (omega arith) _ _ c.in_ok-a.ensures;
+  same = record {
+    demands = c.place_row.auto.demand ∙ l.invariant.same.demands;
+    services = c.place_row.auto.service ∙ l.invariant.same.services;
+    readies = c.place_row.auto.ready ∙ l.invariant.same.readies;
+    dues = c.place_row.auto.due ∙ l.invariant.same.dues;
+    penalties = c.place_row.auto.penalty ∙ l.invariant.same.penalties;
+    flag_cells = c.place_row.auto.flags ∙ l.invariant.same.flag_cells;
+  };
+}
 
 pub returns : goal.returns
-returns c = places_end _ _ _ c.loop-left.i c.loop-left.a c.loop-left.left c.loop-left.invariant.0 _ c.loop-left.invariant.1 (omega arith)
+returns c = let l = c.loop-i in places_end _ _ _ l.i l.a (c.args.n - l.i) l.invariant.read _ (omega arith) (omega arith)

@@ -1,5 +1,5 @@
 -- What the loops of `places::place_rows` keep.
-use Prim.Native.Nat.{◌+◌}
+use Prim.Native.Nat.{◌-◌}
 use mathlib.Core.Path.{◌≡◌}
 use Rattle.sheet_reader.proofs.PlaceLaws.{behind}
 use Rattle.sheet_reader.specs.Cells.{Sizes, columns_of, columns}
@@ -7,8 +7,8 @@ use Rattle.sheet_cells.specs.sheet_format.Form.{place}
 use Rattle.sheet_cells.specs.sheet_text.Text.{map_reading, repeat}
 use Rattle.sheet_reader.proofs.places.place_rows.Given as goal
 
-abbrev pub invariant-loop-left : goal.invariant-loop-left
-invariant-loop-left l = (map_reading columns (repeat l.n (λ l. place) l.s l.at) ≡ map_reading (behind l.i (columns_of l.demand l.service l.ready l.due l.penalty l.flags)) (repeat l.left (λ l. place) l.s l.a)) × (l.i + l.left ≡ l.n) × Sizes (columns_of l.demand l.service l.ready l.due l.penalty l.flags) (columns_of l.initial.demand l.initial.service l.initial.ready l.initial.due l.initial.penalty l.initial.flags)
-
-abbrev pub decreases-loop-left : goal.decreases-loop-left
-decreases-loop-left l = l.left
+abbrev pub invariant-loop-i : goal.invariant-loop-i
+invariant-loop-i l = record {
+  read : map_reading columns (repeat l.n (λ l. place) l.s l.at) ≡ map_reading (behind l.i (columns_of l.demand l.service l.ready l.due l.penalty l.flags)) (repeat (l.n - l.i) (λ l. place) l.s l.a);
+  same : Sizes (columns_of l.demand l.service l.ready l.due l.penalty l.flags) (columns_of l.initial.demand l.initial.service l.initial.ready l.initial.due l.initial.penalty l.initial.flags);
+}

@@ -1,16 +1,31 @@
 -- `routes::stop_row` meets its contract: what the check does not find alone.
-use Prim.Native.Nat.{◌-◌}
+use Prim.Native.Nat.{◌-◌, ◌+◌}
+use mathlib.Core.Path.{◌≡◌, ap, ◌∙◌}
 use native.Mathlib.Omega.{arith}
-use borrow.Author.Rules.{rules}
-use Rattle.sheet_reader.proofs.FillLaws.{ended, not_ended, row_end, row_fault, row_turn}
+use Rattle.sheet_reader.proofs.FillLaws.{ended, row_end, row_fault, row_turn}
+use Rattle.sheet_reader.proofs.SectionLaws.{none_filled}
 use Rattle.sheet_reader.specs.sheet_format.Form.{stop_cell}
+use Rattle.sheet_reader.specs.sheet_text.Text.{ending}
 use Rattle.sheet_routes.proofs.routes.stop_row.Goals as goal
 
-pub returns-in_default : goal.returns-in_default
-returns-in_default c = row_fault stop_cell _ _ _ _ c.loop-left.p c.loop-left.a c.loop-left.left c.loop-left.invariant.0 c.loop-left-test.true (not_ended _ _ _ (c.loop-left.left - 1) _ c.in_default.is c.ending-e.ensures c.number_before.ensures)
+pub loop-i-init : goal.loop-i-init
+loop-i-init c =
+    let none : c.args.base + 0 ≡ c.args.base = omega arith in
+    let all : c.args.k - 0 ≡ c.args.k = omega arith in
+    rw (none, all)
 
-pub loop-left-preserved : goal.loop-left-preserved
-loop-left-preserved c = (row_turn stop_cell _ _ _ _ c.loop-left.p c.loop-left.a c.loop-left.left c.loop-left.invariant.0 c.loop-left-test.true (omega arith) _ _ _ (ended _ _ _ (c.loop-left.left - 1) _ _ _ c.in-Got.is c.ending-e.ensures c.number_before.ensures) c.stop_cell.ensures, search rules, search rules)
+pub returns-in_err-v : goal.returns-in_err-v
+returns-in_err-v c =
+    let l = c.loop-i in
+    let left : c.args.k - l.i - 1 ≡ c.args.k - (l.i + 1) = omega arith in
+    none_filled _ _ _ c.from_residual.ensures
+    (row_fault stop_cell _ _ _ _ (c.args.base + l.i) l.a (c.args.k - l.i) l.invariant (c.args.k - (l.i + 1)) (omega arith) (ended _ _ _ _ _ (c.ending-e.ensures ∙ ap ending left) c.in_err-v.ensures))
+
+pub loop-i-preserved : goal.loop-i-preserved
+loop-i-preserved c =
+    let l = c.loop-i in
+    let left : c.args.k - l.i - 1 ≡ c.args.k - (l.i + 1) = omega arith in
+    row_turn stop_cell _ _ _ _ (c.args.base + l.i) l.a (c.args.k - l.i) l.invariant (c.args.k - (l.i + 1)) (omega arith) (c.args.base + (l.i + 1)) (omega arith) (omega arith) _ _ _ (ended _ _ _ _ _ (c.ending-e.ensures ∙ ap ending left) c.in_ok-v.ensures) c.stop_cell.ensures
 
 pub returns : goal.returns
-returns c = row_end stop_cell _ _ _ _ c.loop-left.p c.loop-left.a c.loop-left.left c.loop-left.invariant.0 _ c.loop-left.invariant.1 (omega arith)
+returns c = let l = c.loop-i in row_end stop_cell _ _ _ _ (c.args.base + l.i) l.a (c.args.k - l.i) l.invariant _ (omega arith) (omega arith)

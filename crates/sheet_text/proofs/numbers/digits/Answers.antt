@@ -1,31 +1,28 @@
 -- `numbers::digits` meets its contract: what the check does not find alone.
-use Prim.Native.Nat.{◌-◌}
+use Prim.Native.Nat.{◌-◌, ◌+◌}
 use mathlib.Core.Path.{sym, ◌∙◌}
 use native.Mathlib.Omega.{arith}
 use Rattle.sheet_text.proofs.TextLaws.{digit_low, digit_high, digits_more, digits_stop, digits_done, tens, below}
 use Rattle.sheet_text.proofs.numbers.digits.Goals as goal
-
-pub returns-then-b-lt48 : goal.returns-then-b-lt48
-returns-then-b-lt48 c = let l = c.loop-left in record { at_value = sym (l.invariant.0 ∙ digits_stop _ _ l.v l.left c.peek-b.ensures.value (digit_low _ c.if-b-lt48.true)); value_bound = below _ 9 _ (omega arith) l.invariant.2 }
-
-pub returns-then-b-gt57 : goal.returns-then-b-gt57
-returns-then-b-gt57 c = let l = c.loop-left in record { at_value = sym (l.invariant.0 ∙ digits_stop _ _ l.v l.left c.peek-b.ensures.value (digit_high _ c.if-b-gt57.true)); value_bound = below _ 9 _ (omega arith) l.invariant.2 }
+use Rattle.sheet_text.proofs.numbers.digits.Goals.{then-b-lt48-via-then-b-lt48, then-b-lt48-via-else-b-lt48+then-b-gt57}
 
 pub overflow_mul-v : goal.overflow_mul-v
-overflow_mul-v c = let l = c.loop-left in omega (arith, below _ 8 _ (omega arith) l.invariant.2)
+overflow_mul-v c = let l = c.loop-k in omega (arith, below l._k 8 l.v (omega arith) l.invariant.1)
 
 pub overflow_add-v : goal.overflow_add-v
-overflow_add-v c = let l = c.loop-left in omega (arith, below _ 8 _ (omega arith) l.invariant.2)
+overflow_add-v c = let l = c.loop-k in omega (arith, below l._k 8 l.v (omega arith) l.invariant.1)
 
-pub overflow_add-i : goal.overflow_add-i
-overflow_add-i c = omega (arith, c.peek-b.ensures.at_bound (omega arith))
-
-pub loop-left-preserved : goal.loop-left-preserved
-loop-left-preserved c = let l = c.loop-left in (
-  l.invariant.0 ∙ digits_more _ _ l.v l.left c.peek-b.ensures.value (omega arith) (omega arith) (omega arith),
-  omega arith,
-  tens l.left l.v _ (omega arith) (omega arith) l.invariant.2 (omega arith),
+pub loop-k-preserved : goal.loop-k-preserved
+loop-k-preserved c = let l = c.loop-k in (
+  l.invariant.0 ∙ digits_more _ _ l.v _ c.peek-b.ensures.value (9 - (l._k + 1)) (omega arith) (omega arith) (omega arith),
+  tens l._k l.v _ l.invariant.1 (omega arith),
 )
 
-pub returns : goal.returns
-returns c = let l = c.loop-left in record { at_value = sym (l.invariant.0 ∙ digits_done _ _ l.v l.left (omega arith)); value_bound = below _ 9 _ (omega arith) l.invariant.2 }
+pub returns-then-b-lt48 : goal.returns-then-b-lt48
+returns-then-b-lt48 c = let l = c.loop-k in record {
+  at_value = sym (l.invariant.0 ∙ digits_stop _ _ l.v (9 - l._k) c.peek-b.ensures.value (elim c.then-b-lt48.branch [ then-b-lt48-via-then-b-lt48 w ↦ digit_low _ w.if-b-lt48.true | then-b-lt48-via-else-b-lt48+then-b-gt57 w ↦ digit_high _ w.if-b-gt57.true ]));
+  value_bound = below l._k 9 _ (omega arith) l.invariant.1;
+}
+
+pub returns-after-loop-k : goal.returns-after-loop-k
+returns-after-loop-k c = let l = c.loop-k in record { at_value = sym (l.invariant.0 ∙ digits_done _ _ l.v (9 - l._k) (omega arith)); value_bound = below l._k 9 _ (omega arith) l.invariant.1 }

@@ -1,16 +1,13 @@
 -- `numbers::number` meets its contract: what the check does not find alone.
-use borrow.Author.Rules.{rules}
 use Rattle.sheet_text.proofs.TextLaws.{number_laws}
 use Rattle.sheet_text.proofs.numbers.number.Goals as goal
+use Rattle.sheet_text.proofs.numbers.number.Goals.{then-b-lt48-via-then-b-lt48, then-b-lt48-via-else-b-lt48+then-b-gt57}
 
-pub returns-then-b-lt48 : goal.returns-then-b-lt48
-returns-then-b-lt48 c = record { result_value = search number_laws; short = tt }
+pub returns-then-b-lt48-clause-result_value : goal.returns-then-b-lt48-clause-result_value
+returns-then-b-lt48-clause-result_value c = elim c.then-b-lt48.branch [ then-b-lt48-via-then-b-lt48 w ↦ search number_laws | then-b-lt48-via-else-b-lt48+then-b-gt57 w ↦ search number_laws ]
 
-pub returns-then-b-gt57 : goal.returns-then-b-gt57
-returns-then-b-gt57 c = record { result_value = search number_laws; short = tt }
+pub returns-then-is_end-clause-result_value : goal.returns-then-is_end-clause-result_value
+returns-then-is_end-clause-result_value c = search number_laws
 
-pub returns-then-is_end : goal.returns-then-is_end
-returns-then-is_end c = record { result_value = search number_laws; short = search rules }
-
-pub returns : goal.returns
-returns c = record { result_value = search number_laws; short = tt }
+pub returns-else-is_end-clause-result_value : goal.returns-else-is_end-clause-result_value
+returns-else-is_end-clause-result_value c = search number_laws

@@ -1,22 +1,28 @@
 -- `request::request` meets its contract: what the check does not find alone.
-use mathlib.Core.Path.{subst}
-use Rattle.sheet_whole.proofs.RequestLaws.{no_draws, no_routes, no_run, request_got}
-use Rattle.sheet_draws.specs.sheet_reader.Cells.{AtMost}
-use Rattle.sheet_draws.specs.Draws.{filled_count}
-use Rattle.sheet_routes.specs.Routes.{PlanWithin, filled_plan}
-use Rattle.sheet_run.specs.Run.{told_run}
-use Rattle.sheet_draws.specs.SheetTextReadLaws.{told}
+use Rattle.sheet_whole.proofs.RequestLaws.{no_request_within, no_draws, no_routes, no_run, request_got}
+use Rattle.sheet_draws.specs.SheetTextReadLaws.{err_mapped}
 use Rattle.sheet_whole.proofs.request.request.Goals as goal
 
-pub returns-in-Refused : goal.returns-in-Refused
-returns-in-Refused c = record { result_after = no_draws _ _ _ (told (filled_count _) c.in-Refused.is c.draws-d.ensures.result_after); request_within = tt }
+pub returns-in_err-drawn : goal.returns-in_err-drawn
+returns-in_err-drawn c = record {
+  result_after = err_mapped _ _ _ _ c.from_residual.ensures.1 (no_draws _ _ _ c.in_err-drawn.ensures.result_after);
+  request_within = no_request_within _ _ c.from_residual.ensures.1;
+}
 
-pub returns-in-Refused-q : goal.returns-in-Refused-q
-returns-in-Refused-q c = record { result_after = no_routes _ _ _ _ (told (filled_count _) c.in-Got.is c.draws-d.ensures.result_after) _ (told (filled_plan _ _) c.in-Refused-q.is c.routes-q.ensures.result_after); request_within = tt }
+pub returns-in_err-plan : goal.returns-in_err-plan
+returns-in_err-plan c = record {
+  result_after = err_mapped _ _ _ _ c.from_residual-in_err-plan.ensures.1 (no_routes _ _ _ _ c.in_ok-drawn.ensures.result_after _ c.in_err-plan.ensures.result_after);
+  request_within = no_request_within _ _ c.from_residual-in_err-plan.ensures.1;
+}
 
-pub returns-in-Refused-r : goal.returns-in-Refused-r
-returns-in-Refused-r c = record { result_after = no_run _ _ _ _ (told (filled_count _) c.in-Got.is c.draws-d.ensures.result_after) _ _ (told (filled_plan _ _) c.in-Got-q.is c.routes-q.ensures.result_after) _ (told told_run c.in-Refused-r.is c.last_run-r.ensures); request_within = tt }
+pub returns-in_err-run : goal.returns-in_err-run
+returns-in_err-run c = record {
+  result_after = err_mapped _ _ _ _ c.from_residual-in_err-run.ensures.1 (no_run _ _ _ _ c.in_ok-drawn.ensures.result_after _ _ c.in_ok-plan.ensures.result_after _ c.in_err-run.ensures);
+  request_within = no_request_within _ _ c.from_residual-in_err-run.ensures.1;
+}
 
-pub returns-in-Got-r : goal.returns-in-Got-r
-returns-in-Got-r c = let v = subst (PlanWithin 64) c.in-Got-q.is c.routes-q.ensures.plan_within in
-    record { result_after = request_got _ _ _ _ (told (filled_count _) c.in-Got.is c.draws-d.ensures.result_after) _ _ (told (filled_plan _ _) c.in-Got-q.is c.routes-q.ensures.result_after) _ _ (told told_run c.in-Got-r.is c.last_run-r.ensures); request_within = (subst (AtMost 1024) c.in-Got.is c.draws-d.ensures.at_most, v.0, v.1) }
+pub returns : goal.returns
+returns c = record {
+  result_after = request_got _ _ _ _ c.in_ok-drawn.ensures.result_after _ _ c.in_ok-plan.ensures.result_after _ _ c.in_ok-run.ensures;
+  request_within = (c.in_ok-drawn.ensures.at_most, c.in_ok-plan.ensures.plan_within.0, c.in_ok-plan.ensures.plan_within.1);
+}

@@ -1,3 +1,0 @@
--- Laws that this crate's proofs cite.
--- the loops over lent cells
-pub mod CellLaws

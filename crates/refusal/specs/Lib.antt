@@ -1,0 +1,3 @@
+-- What the contracts of this crate cite.
+-- the number of a refusal's row
+pub mod Number

@@ -1,3 +1,0 @@
--- What the functions' proofs lean on.
--- a search over the flags
-pub mod FlagLaws

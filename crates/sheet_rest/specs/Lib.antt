@@ -1,2 +1,0 @@
--- what the answers of the code mean
-pub mod Told

@@ -1,2 +1,0 @@
--- the run
-pub mod RunLaws
