@@ -14,7 +14,7 @@ use Rattle.labels.specs.laws.Edits.{insert_at, all_insert_at}
 use Rattle.labels.specs.laws.Walks.{walk, Walking, walking_start, walking_on, walking_stuck, walking_end, walk_insert, walk_rule}
 use Rattle.labels.specs.models.declared.vehicle.VehicleBreak.{VehicleBreak}
 use Rattle.labels.specs.models.Customer.{Customers, customer_at}
-use Rattle.labels.specs.models.Problem.{DistanceMatrix, matrix, Fit, Stops}
+use Rattle.labels.specs.models.Problem.{DistanceMatrix, Fit, Stops}
 use Rattle.labels.specs.distance.Matrix.{get, travel_time}
 use Rattle.labels.specs.declared.Label.{Label}
 use Rattle.labels.specs.Labels.{served_from, earlier}
@@ -140,27 +140,26 @@ ride_place cs m b r c h = go (ride cs m b r c) (λ v e. (ride_goes cs m b r c v 
     go None f = tt
     go (Some v) f = rw (f v refl) h
 
-module _ (cs : Customers) (n : ℕ) (distances times : List Float) (b : VehicleBreak) where
-  all_there : (stops : List ℕ) (first r : Riding) (x : Option Riding) → All (λ c. c < n) stops → first.clock.prev < n
-      → x ≡ ride_all cs (matrix n distances times) b stops first → x ≡ Some r → r.clock.prev < n
+module _ (cs : Customers) (m : DistanceMatrix) (b : VehicleBreak) where
+  all_there : (stops : List ℕ) (first r : Riding) (x : Option Riding) → All (λ c. c < m.size) stops → first.clock.prev < m.size
+      → x ≡ ride_all cs m b stops first → x ≡ Some r → r.clock.prev < m.size
   all_there stops first r x a h ex e =
-      let m = matrix n distances times in
-      subst (Place n) (sym ex ∙ e)
-      (walk_rule Some onward (ride cs m b) None (λ s f. refl) (λ f. refl) ridden_cases (Place n) (λ c. c < n) tt
+      subst (Place m.size) (sym ex ∙ e)
+      (walk_rule Some onward (ride cs m b) None (λ s f. refl) (λ f. refl) ridden_cases (Place m.size) (λ c. c < m.size) tt
       (λ w c h _. ride_place cs m b w c h) stops first a h)
 
   -- the whole route, its front part, the route with a stop put in
-  module _ (route : List ℕ) (r : Riding) (x : Option Riding) (s : Stops n route) where
-    pub ride_all_there : (first : Riding) → first.clock.prev < n → x ≡ ride_all cs (matrix n distances times) b route first → x ≡ Some r → r.clock.prev < n
-    ride_all_there first h ex e = all_there route first r x (stops_all n route s) h ex e
+  module _ (route : List ℕ) (r : Riding) (x : Option Riding) (s : Stops m.size route) where
+    pub ride_all_there : (first : Riding) → first.clock.prev < m.size → x ≡ ride_all cs m b route first → x ≡ Some r → r.clock.prev < m.size
+    ride_all_there first h ex e = all_there route first r x (stops_all m.size route s) h ex e
 
-    pub front_there : (pos depot : ℕ) → depot < n → x ≡ ride_all cs (matrix n distances times) b (take pos route) (set_out depot) → x ≡ Some r
-        → r.clock.prev < n
-    front_there pos depot h ex e = all_there (take pos route) (set_out depot) r x (all_take pos (stops_all n route s)) h ex e
+    pub front_there : (pos depot : ℕ) → depot < m.size → x ≡ ride_all cs m b (take pos route) (set_out depot) → x ≡ Some r
+        → r.clock.prev < m.size
+    front_there pos depot h ex e = all_there (take pos route) (set_out depot) r x (all_take pos (stops_all m.size route s)) h ex e
 
-    pub trial_there : (pos c depot : ℕ) → c < n → depot < n → x ≡ ride_all cs (matrix n distances times) b (insert_at pos c route) (set_out depot) → x ≡ Some r
-        → r.clock.prev < n
-    trial_there pos c depot g h ex e = all_there (insert_at pos c route) (set_out depot) r x (all_insert_at pos c g (stops_all n route s)) h ex e
+    pub trial_there : (pos c depot : ℕ) → c < m.size → depot < m.size → x ≡ ride_all cs m b (insert_at pos c route) (set_out depot) → x ≡ Some r
+        → r.clock.prev < m.size
+    trial_there pos c depot g h ex e = all_there (insert_at pos c route) (set_out depot) r x (all_insert_at pos c g (stops_all m.size route s)) h ex e
 
 module _ (cs : Customers) (m : DistanceMatrix) (b : VehicleBreak) (r v : Riding) (c : ℕ) (x : Option Riding) where
   pub ride_there : (n : ℕ) → c < n → x ≡ ride cs m b r c → x ≡ Some v → v.clock.prev < n

@@ -1,11 +1,12 @@
 // The clock of a route that carries a driver's break (evaluation/schedule.rs): two labels, one with the break still to take and one with it taken.
 ghost use Rattle.std.specs.Prelude.{◌≡◌, ◌<◌, ◌≤◌};
-ghost use Rattle.labels.specs.models.Customer.{customers};
-ghost use Rattle.labels.specs.models.Problem.{matrix, Square, Fit};
+ghost use Rattle.labels.specs.models.Problem.{Square};
 ghost use Rattle.break_clock.specs.Schedule.{break_clock_new, clocked, push, finish_after, finish, set_out};
 
 use crate::route_eval::RouteEval;
-use labels::{Label, VehicleBreak, customer_at, lives, served_from, travel_time};
+use labels::{
+    DistanceMatrix, Label, Network, VehicleBreak, customer_at, lives, served_from, travel_time,
+};
 
 // The clock of a route that is extended one stop at a time. Each step takes the clock and hands the next one back, the break beside it.
 #[derive(Clone, Copy)]
@@ -65,26 +66,12 @@ impl BreakClock {
 
     // Drives on to stop c. None where no way of placing the break lets the vehicle serve the stops so far.
     #[tactic(auto, unfolding(crate::specs::Schedule::push))]
-    pub fn push(
-        self,
-        rest: VehicleBreak,
-        c: usize,
-        n: usize,
-        distances: &[f64],
-        times: &[f64],
-        service: &[f64],
-        ready: &[f64],
-        due: &[f64],
-        penalty: &[f64],
-        flags: &[u8],
-    ) -> Option<BreakClock>
-        requires fit { Fit (customers service.now ready.now due.now penalty.now flags.now) (matrix n distances.now times.now) }
-        requires prev_lt_n { (self.prev < n) × (c < n) × (self.index ≤ 256) }
-        ensures { result ≡ push (customers service.now ready.now due.now penalty.now flags.now)
-            (matrix n distances.now times.now) rest self c }
+    pub fn push(self, rest: VehicleBreak, c: usize, net: &Network) -> Option<BreakClock>
+        requires { (self.prev < net.now.roads.size) × (c < net.now.roads.size) × (self.index ≤ 256) }
+        ensures { result ≡ push net.now.places net.now.roads rest self c }
     {
-        let travel = travel_time(distances, times, n, self.prev, c);
-        let customer = customer_at(c, service, ready, due, penalty, flags);
+        let travel = travel_time(&net.roads, self.prev, c);
+        let customer = customer_at(c, &net.places);
         let skipped = served_from(self.before, travel, self.index, None, customer);
         let here = served_from(self.before, travel, self.index, Some(rest), customer);
         let carried = served_from(self.after, travel, self.index, None, customer);
@@ -99,15 +86,13 @@ impl BreakClock {
         rest: VehicleBreak,
         distance: f64,
         depot: usize,
-        n: usize,
-        distances: &[f64],
-        times: &[f64],
+        roads: &DistanceMatrix,
     ) -> Option<RouteEval>
-        requires square { Square (matrix n distances.now times.now) }
-        requires prev_lt_n { (self.prev < n) × (depot < n) }
-        ensures { result ≡ finish (matrix n distances.now times.now) rest depot self distance }
+        requires square { Square roads.now }
+        requires prev_lt_n { (self.prev < roads.now.size) × (depot < roads.now.size) }
+        ensures { result ≡ finish roads.now rest depot self distance }
     {
-        let back = travel_time(distances, times, n, self.prev, depot);
+        let back = travel_time(roads, self.prev, depot);
         let Some(l) = self.before else {
             return finish_after(self.after, distance, back);
         };

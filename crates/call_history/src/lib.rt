@@ -8,7 +8,7 @@ ghost use Rattle.call_words.specs.Words.{answer_words, put};
 use call_words::{Reduction, Refusal, copy_part};
 
 // Of the crates below, passed on to those above.
-pub use call_words::{Vehicle, well_formed, words_at};
+pub use call_words::{Problem, Vehicle, well_formed, words_at};
 
 // Four words from `at` on.
 fn put_words(answers: &mut [u64], at: usize, refusal: u64, routes: u64, steps: u64, draws: u64)

@@ -3,11 +3,11 @@
 #![tactic(auto)]
 
 ghost use Rattle.std.specs.Prelude.{◌≡◌, true};
-ghost use Rattle.recorded_call.specs.models.Problem.{problem};
+ghost use Rattle.recorded_call.specs.models.Lent.{of_problem};
 ghost use Rattle.recorded_call.specs.call_words.Words.{count_of, buffers, well_formed};
 ghost use Rattle.call_lists.specs.Lists.{AllRun, Leaves};
 
-use recorded_call::{Vehicle, run_next, well_formed};
+use recorded_call::{Problem, Vehicle, run_next, well_formed};
 
 // Of the crates below, passed on to those above.
 pub use recorded_call::{eliminate, minimise};
@@ -27,27 +27,17 @@ fn run_all(
     calls: &[u64],
     tapes: &[u64],
     count: usize,
-    n: usize,
-    demand: &[i32],
-    service: &[f64],
-    ready: &[f64],
-    due: &[f64],
-    penalty: &[f64],
-    flags: &[u8],
-    distances: &[f64],
-    times: &[f64],
-    vehicle: Vehicle,
+    problem: &Problem,
 )
-    requires { (count ≡ count_of calls.now) × (well_formed calls.now tapes.now (buffers lengths.old stops.old work.old cells.old answers.old history.old) ≡ true) }
-    ensures { AllRun count (problem n demand.now service.now ready.now due.now penalty.now flags.now
-        distances.now times.now vehicle)
-        calls.now tapes.now (buffers lengths.old stops.old work.old cells.old answers.old history.old) (buffers lengths.new stops.new work.new cells.new answers.new history.new) }
+    requires { (count ≡ count_of calls.now)
+        × (well_formed calls.now tapes.now (buffers lengths.old stops.old work.old cells.old answers.old history.old) ≡ true) }
+    ensures { AllRun count (of_problem problem.now) calls.now tapes.now (buffers lengths.old stops.old work.old cells.old answers.old history.old)
+        (buffers lengths.new stops.new work.new cells.new answers.new history.new) }
 {
     let mut from = 0;
     for ran in 0..count {
         from = run_next(
-            lengths, stops, work, cells, answers, history, calls, tapes, ran, from, n, demand,
-            service, ready, due, penalty, flags, distances, times, vehicle,
+            lengths, stops, work, cells, answers, history, calls, tapes, ran, from, problem,
         );
     }
 }
@@ -65,28 +55,17 @@ pub fn run_calls(
     history: &mut [u16],
     calls: &[u64],
     tapes: &[u64],
-    n: usize,
-    demand: &[i32],
-    service: &[f64],
-    ready: &[f64],
-    due: &[f64],
-    penalty: &[f64],
-    flags: &[u8],
-    distances: &[f64],
-    times: &[f64],
-    vehicle: Vehicle,
+    problem: &Problem,
 ) -> Result<usize, Malformed>
-    ensures { Leaves result (problem n demand.now service.now ready.now due.now penalty.now flags.now
-        distances.now times.now vehicle)
-        calls.now tapes.now (buffers lengths.old stops.old work.old cells.old answers.old history.old) (buffers lengths.new stops.new work.new cells.new answers.new history.new) }
+    ensures { Leaves result (of_problem problem.now) calls.now tapes.now (buffers lengths.old stops.old work.old cells.old answers.old history.old)
+        (buffers lengths.new stops.new work.new cells.new answers.new history.new) }
 {
     if !well_formed(lengths, stops, work, cells, answers, history, calls, tapes) {
         return Err(Malformed);
     }
     let count = calls.len() / 6;
     run_all(
-        lengths, stops, work, cells, answers, history, calls, tapes, count, n, demand, service,
-        ready, due, penalty, flags, distances, times, vehicle,
+        lengths, stops, work, cells, answers, history, calls, tapes, count, problem,
     );
     Ok(count)
 }

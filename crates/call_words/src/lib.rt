@@ -7,7 +7,7 @@ ghost use Rattle.planner.specs.Told.{work_of};
 ghost use Rattle.call_words.specs.Words.{buffers, words_first, words_of, kind_passes, call_passes, calls_pass, well_formed};
 
 // Of the crates below, passed on to those above.
-pub use planner::{Reduction, Refusal, Vehicle, copy_part};
+pub use planner::{Problem, Reduction, Refusal, Vehicle, copy_part};
 
 // The six words of a call: its kind (0 minimise, 1 eliminate), M, K, how many words its tape has, and how many u16 and f64 work cells it is lent.
 #[derive(Clone, Copy)]

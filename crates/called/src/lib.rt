@@ -3,14 +3,14 @@
 #![tactic(auto)]
 
 ghost use Rattle.std.specs.Prelude.{◌≡◌, length, drop};
-ghost use Rattle.minimise_call.specs.models.Problem.{problem};
+ghost use Rattle.minimise_call.specs.models.Lent.{of_problem};
 ghost use Rattle.minimise_call.specs.planner.Run.{call};
 ghost use Rattle.minimise_call.specs.planner.Told.{reply_of, slices_of};
 ghost use Rattle.call_words.specs.Words.{call_of};
 ghost use Rattle.called.specs.Lent.{Lent};
 
 use call_words::Words;
-use minimise_call::{Reduction, Refusal, Vehicle};
+use minimise_call::{Problem, Reduction, Refusal, Vehicle};
 
 // Of the crates below, passed on to those above.
 pub use eliminate_call::eliminate;
@@ -25,21 +25,11 @@ pub fn run_call(
     tapes: &[u64],
     from: usize,
     w: Words,
-    n: usize,
-    demand: &[i32],
-    service: &[f64],
-    ready: &[f64],
-    due: &[f64],
-    penalty: &[f64],
-    flags: &[u8],
-    distances: &[f64],
-    times: &[f64],
-    vehicle: Vehicle,
+    problem: &Problem,
 ) -> Result<Reduction, Refusal>
     requires { Lent w from (length tapes.now) (length work.old) (length cells.old) }
-    ensures { reply_of result lengths.new stops.new ≡ call (problem n demand.now service.now ready.now due.now penalty.now flags.now
-        distances.now times.now vehicle)
-        (slices_of lengths.old stops.old) (call_of w (drop from tapes.now)) }
+    ensures { reply_of result lengths.new stops.new ≡ call (of_problem problem.now) (slices_of lengths.old stops.old)
+        (call_of w (drop from tapes.now)) }
 {
     let small = w.small;
     let wide = w.wide;
@@ -53,32 +43,8 @@ pub fn run_call(
             &tapes[from..end],
             w.limit,
             w.clock,
-            n,
-            demand,
-            service,
-            ready,
-            due,
-            penalty,
-            flags,
-            distances,
-            times,
-            vehicle,
+            problem,
         );
     }
-    eliminate(
-        lengths,
-        stops,
-        &mut work[..small],
-        &cells[..wide],
-        n,
-        demand,
-        service,
-        ready,
-        due,
-        penalty,
-        flags,
-        distances,
-        times,
-        vehicle,
-    )
+    eliminate(lengths, stops, &mut work[..small], &cells[..wide], problem)
 }

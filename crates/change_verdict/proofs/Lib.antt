@@ -1,3 +1,3 @@
--- Laws of what is compared.
+-- Laws of what is asked.
 -- the calls that change a plan
 pub mod ChangeLaws

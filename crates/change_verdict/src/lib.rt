@@ -6,14 +6,16 @@ ghost use Rattle.minimise_call.specs.models.Problem.{problem};
 ghost use Rattle.minimise_call.specs.ejection_pool.Running.{allowance};
 ghost use Rattle.minimise_call.specs.planner.Told.{reply_of, slices_of, work_of};
 ghost use Rattle.change_verdict.specs.Changed.{change, replayed, replayed_as};
+ghost use Rattle.minimise_call.specs.models.Lent.{of_problem};
 
 use eliminate_call::eliminate;
-use minimise_call::{Reduction, Refusal, Vehicle, minimise};
-use same_answers::{Stored, of_replied, same_plan, same_stored};
+use minimise_call::{Problem, Reduction, Refusal, Vehicle, minimise};
+use same_answers::{Kind, Stored, of_replied, same_plan, same_stored};
 
 // What a call answers: minimise, or eliminate for any other kind.
+#[tactic(auto, using(crate::proofs::ChangeLaws::eliminate_asked), unfolding(crate::specs::Changed::change))]
 fn changed(
-    kind: u64,
+    kind: Kind,
     lengths: &mut [u16],
     stops: &mut [u16],
     work: &mut [u16],
@@ -21,36 +23,20 @@ fn changed(
     tape: &[u64],
     limit: u64,
     clock: u64,
-    n: usize,
-    demand: &[i32],
-    service: &[f64],
-    ready: &[f64],
-    due: &[f64],
-    penalty: &[f64],
-    flags: &[u8],
-    distances: &[f64],
-    times: &[f64],
-    vehicle: Vehicle,
+    problem: &Problem,
 ) -> Result<Reduction, Refusal>
-    ensures { reply_of result lengths.new stops.new ≡ change kind (problem n demand.now service.now ready.now due.now penalty.now flags.now
-        distances.now times.now vehicle)
-        (slices_of lengths.old stops.old) (allowance limit clock tape.now) (work_of (length work.old) (length cells.old)) }
+    ensures { reply_of result lengths.new stops.new ≡ change kind (of_problem problem.now) (slices_of lengths.old stops.old)
+        (allowance limit clock tape.now) (work_of (length work.old) (length cells.old)) }
 {
-    if kind == 0 {
-        return minimise(
-            lengths, stops, work, cells, tape, limit, clock, n, demand, service, ready, due,
-            penalty, flags, distances, times, vehicle,
-        );
+    match kind {
+        Kind::Minimise => minimise(lengths, stops, work, cells, tape, limit, clock, problem),
+        _ => eliminate(lengths, stops, work, cells, problem),
     }
-    eliminate(
-        lengths, stops, work, cells, n, demand, service, ready, due, penalty, flags, distances,
-        times, vehicle,
-    )
 }
 
 // Whether a call's answer and the plan after it are the stored ones.
 pub fn change_agrees(
-    kind: u64,
+    kind: Kind,
     lengths: &mut [u16],
     stops: &mut [u16],
     answer: Stored,
@@ -61,24 +47,14 @@ pub fn change_agrees(
     tape: &[u64],
     limit: u64,
     clock: u64,
-    n: usize,
-    demand: &[i32],
-    service: &[f64],
-    ready: &[f64],
-    due: &[f64],
-    penalty: &[f64],
-    flags: &[u8],
-    distances: &[f64],
-    times: &[f64],
-    vehicle: Vehicle,
+    problem: &Problem,
 ) -> bool
-    ensures { replayed_as result lengths.new stops.new ≡ replayed (change kind (problem n demand.now service.now ready.now due.now penalty.now flags.now
-        distances.now times.now vehicle)
-        (slices_of lengths.old stops.old) (allowance limit clock tape.now) (work_of (length work.old) (length cells.old))) answer lengths_after.now stops_after.now }
+    ensures { replayed_as result lengths.new stops.new ≡ replayed
+        (change kind (of_problem problem.now) (slices_of lengths.old stops.old) (allowance limit clock tape.now)
+        (work_of (length work.old) (length cells.old))) answer lengths_after.now stops_after.now }
 {
     let replied = changed(
-        kind, lengths, stops, work, cells, tape, limit, clock, n, demand, service, ready, due,
-        penalty, flags, distances, times, vehicle,
+        kind, lengths, stops, work, cells, tape, limit, clock, problem,
     );
     let told = of_replied(replied);
     if same_stored(told, answer) {

@@ -10,6 +10,7 @@ ghost use Rattle.c_answers.specs.c_values.Said.{replies, plan_call, FreeIfDone};
 
 use c_answers::{put_reply, reply_misfit};
 use c_vehicle::vehicle_of;
+use worth_questions::{Customers, DistanceMatrix, Problem};
 
 // Fewer routes by an ejection pool: at most `limit` steps in an attempt, draws from the tape, a clock that stops the call after `clock` steps.
 #[unsafe(no_mangle)]
@@ -42,8 +43,9 @@ pub extern "C" fn cobrwydd_minimise(
     latest: f64,
     duration: f64,
 ) -> u8
-    ensures reply { replies result counts.new lengths.new stops.new ≡ plan_call given counts.old (slices_of lengths.old stops.old) (public_minimise (problem n demand.now service.now ready.now due.now penalty.now flags.now
-        distances.now times.now (vehicle_of capacity depot fixed_cost cost_per_distance given max_distance max_duration earliest latest duration))
+    ensures reply { replies result counts.new lengths.new stops.new ≡ plan_call given counts.old (slices_of lengths.old stops.old)
+        (public_minimise (problem n demand.now service.now ready.now due.now penalty.now flags.now distances.now times.now
+        (vehicle_of capacity depot fixed_cost cost_per_distance given max_distance max_duration earliest latest duration))
         (slices_of lengths.old stops.old) (allowance limit clock tape.now) (work_of (length work.old) (length cells.old))) }
     ensures work { FreeIfDone result work.old work.new }
     ensures cells { FreeIfDone result cells.old cells.new }
@@ -63,10 +65,25 @@ pub extern "C" fn cobrwydd_minimise(
         latest,
         duration,
     );
-    let reply = c_reports::minimise(
-        lengths, stops, work, cells, tape, limit, clock, n, demand, service, ready, due, penalty,
-        flags, distances, times, vehicle,
-    );
+    let places = Customers {
+        service,
+        ready,
+        due,
+        penalty,
+        flags,
+    };
+    let roads = DistanceMatrix {
+        size: n,
+        distances,
+        times,
+    };
+    let problem = Problem {
+        demand,
+        places: &places,
+        roads: &roads,
+        vehicle,
+    };
+    let reply = c_reports::minimise(lengths, stops, work, cells, tape, limit, clock, &problem);
     put_reply(counts, reply)
 }
 
@@ -98,8 +115,9 @@ pub extern "C" fn cobrwydd_eliminate(
     latest: f64,
     duration: f64,
 ) -> u8
-    ensures reply { replies result counts.new lengths.new stops.new ≡ plan_call given counts.old (slices_of lengths.old stops.old) (public_eliminate (problem n demand.now service.now ready.now due.now penalty.now flags.now
-        distances.now times.now (vehicle_of capacity depot fixed_cost cost_per_distance given max_distance max_duration earliest latest duration))
+    ensures reply { replies result counts.new lengths.new stops.new ≡ plan_call given counts.old (slices_of lengths.old stops.old)
+        (public_eliminate (problem n demand.now service.now ready.now due.now penalty.now flags.now distances.now times.now
+        (vehicle_of capacity depot fixed_cost cost_per_distance given max_distance max_duration earliest latest duration))
         (slices_of lengths.old stops.old) (work_of (length work.old) (length cells.now))) }
     ensures work { FreeIfDone result work.old work.new }
 {
@@ -118,9 +136,24 @@ pub extern "C" fn cobrwydd_eliminate(
         latest,
         duration,
     );
-    let reply = c_reports::eliminate(
-        lengths, stops, work, cells, n, demand, service, ready, due, penalty, flags, distances,
-        times, vehicle,
-    );
+    let places = Customers {
+        service,
+        ready,
+        due,
+        penalty,
+        flags,
+    };
+    let roads = DistanceMatrix {
+        size: n,
+        distances,
+        times,
+    };
+    let problem = Problem {
+        demand,
+        places: &places,
+        roads: &roads,
+        vehicle,
+    };
+    let reply = c_reports::eliminate(lengths, stops, work, cells, &problem);
     put_reply(counts, reply)
 }

@@ -8,6 +8,7 @@ ghost use Rattle.cobrwydd.specs.Lists.{RanList};
 use c_answers::list_misfit;
 use c_reports::ran_code;
 use c_vehicle::vehicle_of;
+use worth_questions::{Customers, DistanceMatrix, Problem};
 
 // The calls that `calls` and `tapes` ask for: six words of `calls` for each (kind, M, K, words of its tape, u16 and f64 work cells), the tapes one after the
 // other. Four words of `answers` for each (refusal or 0, routes, steps, draws), and in `history` the lengths and stops after it. 102 where the words or
@@ -42,9 +43,11 @@ pub extern "C" fn cobrwydd_run_calls(
     latest: f64,
     duration: f64,
 ) -> u8
-    ensures { RanList result given (problem n demand.now service.now ready.now due.now penalty.now flags.now
-        distances.now times.now (vehicle_of capacity depot fixed_cost cost_per_distance given max_distance max_duration earliest latest duration))
-        calls.now tapes.now (buffers lengths.old stops.old work.old cells.old answers.old history.old) (buffers lengths.new stops.new work.new cells.new answers.new history.new) }
+    ensures { RanList result given
+        (problem n demand.now service.now ready.now due.now penalty.now flags.now distances.now times.now
+        (vehicle_of capacity depot fixed_cost cost_per_distance given max_distance max_duration earliest latest duration)) calls.now tapes.now
+        (buffers lengths.old stops.old work.old cells.old answers.old history.old)
+        (buffers lengths.new stops.new work.new cells.new answers.new history.new) }
 {
     if let Err(fault) = list_misfit(given) {
         return fault.code();
@@ -61,9 +64,26 @@ pub extern "C" fn cobrwydd_run_calls(
         latest,
         duration,
     );
+    let places = Customers {
+        service,
+        ready,
+        due,
+        penalty,
+        flags,
+    };
+    let roads = DistanceMatrix {
+        size: n,
+        distances,
+        times,
+    };
+    let problem = Problem {
+        demand,
+        places: &places,
+        roads: &roads,
+        vehicle,
+    };
     let ran = c_reports::run_calls(
-        lengths, stops, work, cells, answers, history, calls, tapes, n, demand, service, ready,
-        due, penalty, flags, distances, times, vehicle,
+        lengths, stops, work, cells, answers, history, calls, tapes, &problem,
     );
     ran_code(ran)
 }

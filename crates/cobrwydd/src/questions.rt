@@ -12,7 +12,7 @@ use c_answers::{
     put_window, window_misfit,
 };
 use c_vehicle::vehicle_of;
-use worth_questions::VehicleBreak;
+use worth_questions::{Customers, DistanceMatrix, Problem, VehicleBreak};
 
 // Whether a route passes the check: found[0].
 #[unsafe(no_mangle)]
@@ -39,8 +39,9 @@ pub extern "C" fn cobrwydd_route_feasible(
     latest: f64,
     duration: f64,
 ) -> u8
-    ensures { says result [] found.new ≡ question checked_values 0 1 given (values [] found.old) (public_route_feasible (problem n demand.now service.now ready.now due.now penalty.now flags.now
-        distances.now times.now (vehicle_of capacity depot fixed_cost cost_per_distance given max_distance max_duration earliest latest duration)) route.now) }
+    ensures { says result [] found.new ≡ question checked_values 0 1 given (values [] found.old)
+        (public_route_feasible (problem n demand.now service.now ready.now due.now penalty.now flags.now distances.now times.now
+        (vehicle_of capacity depot fixed_cost cost_per_distance given max_distance max_duration earliest latest duration)) route.now) }
 {
     if let Err(fault) = checked_misfit(found.len(), given) {
         return fault.code();
@@ -57,9 +58,25 @@ pub extern "C" fn cobrwydd_route_feasible(
         latest,
         duration,
     );
-    let answer = worth_questions::planner_questions_route_feasible(
-        route, n, demand, service, ready, due, penalty, flags, distances, times, vehicle,
-    );
+    let places = Customers {
+        service,
+        ready,
+        due,
+        penalty,
+        flags,
+    };
+    let roads = DistanceMatrix {
+        size: n,
+        distances,
+        times,
+    };
+    let problem = Problem {
+        demand,
+        places: &places,
+        roads: &roads,
+        vehicle,
+    };
+    let answer = worth_questions::planner_questions_route_feasible(route, &problem);
     put_checked(found, answer)
 }
 
@@ -89,8 +106,9 @@ pub extern "C" fn cobrwydd_route_eval(
     latest: f64,
     duration: f64,
 ) -> u8
-    ensures { says result out.new found.new ≡ question eval_values 5 3 given (values out.old found.old) (public_route_eval (problem n demand.now service.now ready.now due.now penalty.now flags.now
-        distances.now times.now (vehicle_of capacity depot fixed_cost cost_per_distance given max_distance max_duration earliest latest duration)) route.now) }
+    ensures { says result out.new found.new ≡ question eval_values 5 3 given (values out.old found.old)
+        (public_route_eval (problem n demand.now service.now ready.now due.now penalty.now flags.now distances.now times.now
+        (vehicle_of capacity depot fixed_cost cost_per_distance given max_distance max_duration earliest latest duration)) route.now) }
 {
     if let Err(fault) = evaluated_misfit(out.len(), found.len(), given) {
         return fault.code();
@@ -107,9 +125,25 @@ pub extern "C" fn cobrwydd_route_eval(
         latest,
         duration,
     );
-    let answer = worth_questions::route_eval(
-        route, n, demand, service, ready, due, penalty, flags, distances, times, vehicle,
-    );
+    let places = Customers {
+        service,
+        ready,
+        due,
+        penalty,
+        flags,
+    };
+    let roads = DistanceMatrix {
+        size: n,
+        distances,
+        times,
+    };
+    let problem = Problem {
+        demand,
+        places: &places,
+        roads: &roads,
+        vehicle,
+    };
+    let answer = worth_questions::route_eval(route, &problem);
     put_evaluated(out, found, answer)
 }
 
@@ -138,8 +172,9 @@ pub extern "C" fn cobrwydd_effective_cost(
     latest: f64,
     duration: f64,
 ) -> u8
-    ensures { says result out.new [] ≡ question number_values 1 0 given (values out.old []) (public_effective_cost (problem n demand.now service.now ready.now due.now penalty.now flags.now
-        distances.now times.now (vehicle_of capacity depot fixed_cost cost_per_distance given max_distance max_duration earliest latest duration)) route.now) }
+    ensures { says result out.new [] ≡ question number_values 1 0 given (values out.old [])
+        (public_effective_cost (problem n demand.now service.now ready.now due.now penalty.now flags.now distances.now times.now
+        (vehicle_of capacity depot fixed_cost cost_per_distance given max_distance max_duration earliest latest duration)) route.now) }
 {
     if let Err(fault) = number_misfit(out.len(), given) {
         return fault.code();
@@ -156,9 +191,25 @@ pub extern "C" fn cobrwydd_effective_cost(
         latest,
         duration,
     );
-    let answer = worth_questions::effective_cost(
-        route, n, demand, service, ready, due, penalty, flags, distances, times, vehicle,
-    );
+    let places = Customers {
+        service,
+        ready,
+        due,
+        penalty,
+        flags,
+    };
+    let roads = DistanceMatrix {
+        size: n,
+        distances,
+        times,
+    };
+    let problem = Problem {
+        demand,
+        places: &places,
+        roads: &roads,
+        vehicle,
+    };
+    let answer = worth_questions::effective_cost(route, &problem);
     put_number(out, answer)
 }
 
@@ -191,8 +242,10 @@ pub extern "C" fn cobrwydd_schedule(
     latest: f64,
     duration: f64,
 ) -> u8
-    ensures { says result out.new found.new ≡ question eval_values 5 3 given (values out.old found.old) (public_schedule (problem n demand.now service.now ready.now due.now penalty.now flags.now
-        distances.now times.now (vehicle_of capacity depot fixed_cost cost_per_distance given max_distance max_duration earliest latest duration)) (vehicle_break_new break_earliest break_latest break_duration) route.now) }
+    ensures { says result out.new found.new ≡ question eval_values 5 3 given (values out.old found.old)
+        (public_schedule (problem n demand.now service.now ready.now due.now penalty.now flags.now distances.now times.now
+        (vehicle_of capacity depot fixed_cost cost_per_distance given max_distance max_duration earliest latest duration))
+        (vehicle_break_new break_earliest break_latest break_duration) route.now) }
 {
     if let Err(fault) = evaluated_misfit(out.len(), found.len(), given) {
         return fault.code();
@@ -209,10 +262,26 @@ pub extern "C" fn cobrwydd_schedule(
         latest,
         duration,
     );
+    let places = Customers {
+        service,
+        ready,
+        due,
+        penalty,
+        flags,
+    };
+    let roads = DistanceMatrix {
+        size: n,
+        distances,
+        times,
+    };
+    let problem = Problem {
+        demand,
+        places: &places,
+        roads: &roads,
+        vehicle,
+    };
     let rest = VehicleBreak::new(break_earliest, break_latest, break_duration);
-    let answer = worth_questions::planner_questions_schedule(
-        route, rest, n, demand, service, ready, due, penalty, flags, distances, times, vehicle,
-    );
+    let answer = worth_questions::planner_questions_schedule(route, rest, &problem);
     put_evaluated(out, found, answer)
 }
 
@@ -241,8 +310,9 @@ pub extern "C" fn cobrwydd_route_distance(
     latest: f64,
     duration: f64,
 ) -> u8
-    ensures { says result out.new [] ≡ question number_values 1 0 given (values out.old []) (public_route_distance (problem n demand.now service.now ready.now due.now penalty.now flags.now
-        distances.now times.now (vehicle_of capacity depot fixed_cost cost_per_distance given max_distance max_duration earliest latest duration)) route.now) }
+    ensures { says result out.new [] ≡ question number_values 1 0 given (values out.old [])
+        (public_route_distance (problem n demand.now service.now ready.now due.now penalty.now flags.now distances.now times.now
+        (vehicle_of capacity depot fixed_cost cost_per_distance given max_distance max_duration earliest latest duration)) route.now) }
 {
     if let Err(fault) = number_misfit(out.len(), given) {
         return fault.code();
@@ -259,9 +329,25 @@ pub extern "C" fn cobrwydd_route_distance(
         latest,
         duration,
     );
-    let answer = worth_questions::planner_questions_route_distance(
-        route, n, demand, service, ready, due, penalty, flags, distances, times, vehicle,
-    );
+    let places = Customers {
+        service,
+        ready,
+        due,
+        penalty,
+        flags,
+    };
+    let roads = DistanceMatrix {
+        size: n,
+        distances,
+        times,
+    };
+    let problem = Problem {
+        demand,
+        places: &places,
+        roads: &roads,
+        vehicle,
+    };
+    let answer = worth_questions::planner_questions_route_distance(route, &problem);
     put_number(out, answer)
 }
 
@@ -289,8 +375,9 @@ pub extern "C" fn cobrwydd_lateness_bound(
     latest: f64,
     duration: f64,
 ) -> u8
-    ensures { says result out.new [] ≡ question number_values 1 0 given (values out.old []) (public_lateness_bound (problem n demand.now service.now ready.now due.now penalty.now flags.now
-        distances.now times.now (vehicle_of capacity depot fixed_cost cost_per_distance given max_distance max_duration earliest latest duration))) }
+    ensures { says result out.new [] ≡ question number_values 1 0 given (values out.old [])
+        (public_lateness_bound (problem n demand.now service.now ready.now due.now penalty.now flags.now distances.now times.now
+        (vehicle_of capacity depot fixed_cost cost_per_distance given max_distance max_duration earliest latest duration))) }
 {
     if let Err(fault) = number_misfit(out.len(), given) {
         return fault.code();
@@ -307,9 +394,25 @@ pub extern "C" fn cobrwydd_lateness_bound(
         latest,
         duration,
     );
-    let answer = problem_questions::lateness_bound(
-        n, demand, service, ready, due, penalty, flags, distances, times, vehicle,
-    );
+    let places = Customers {
+        service,
+        ready,
+        due,
+        penalty,
+        flags,
+    };
+    let roads = DistanceMatrix {
+        size: n,
+        distances,
+        times,
+    };
+    let problem = Problem {
+        demand,
+        places: &places,
+        roads: &roads,
+        vehicle,
+    };
+    let answer = problem_questions::lateness_bound(&problem);
     put_number(out, answer)
 }
 
@@ -337,8 +440,9 @@ pub extern "C" fn cobrwydd_gain_floor(
     latest: f64,
     duration: f64,
 ) -> u8
-    ensures { says result out.new [] ≡ question number_values 1 0 given (values out.old []) (public_gain_floor (problem n demand.now service.now ready.now due.now penalty.now flags.now
-        distances.now times.now (vehicle_of capacity depot fixed_cost cost_per_distance given max_distance max_duration earliest latest duration))) }
+    ensures { says result out.new [] ≡ question number_values 1 0 given (values out.old [])
+        (public_gain_floor (problem n demand.now service.now ready.now due.now penalty.now flags.now distances.now times.now
+        (vehicle_of capacity depot fixed_cost cost_per_distance given max_distance max_duration earliest latest duration))) }
 {
     if let Err(fault) = number_misfit(out.len(), given) {
         return fault.code();
@@ -355,9 +459,25 @@ pub extern "C" fn cobrwydd_gain_floor(
         latest,
         duration,
     );
-    let answer = problem_questions::gain_floor(
-        n, demand, service, ready, due, penalty, flags, distances, times, vehicle,
-    );
+    let places = Customers {
+        service,
+        ready,
+        due,
+        penalty,
+        flags,
+    };
+    let roads = DistanceMatrix {
+        size: n,
+        distances,
+        times,
+    };
+    let problem = Problem {
+        demand,
+        places: &places,
+        roads: &roads,
+        vehicle,
+    };
+    let answer = problem_questions::gain_floor(&problem);
     put_number(out, answer)
 }
 

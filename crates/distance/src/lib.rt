@@ -4,34 +4,44 @@
 ghost use Rattle.std.specs.Prelude.{◌≡◌, false, ◌<◌, ◌≤◌, ◌*◌, length};
 ghost use Rattle.std.specs.Float.Ieee.{is_nan};
 ghost use Rattle.place_record.specs.floats.Binary64.{max};
-ghost use Rattle.place_record.specs.models.Problem.{matrix, Square};
-ghost use Rattle.distance.specs.Matrix.{cell, travel_time, largest};
+ghost use Rattle.place_record.specs.models.Problem.{Square};
+ghost use Rattle.distance.specs.Matrix.{cell, get, travel_time, largest};
 ghost use Rattle.distance.specs.Seen.{Seen, NextSeen};
 
 // Of the crates below, passed on to those above.
 pub use place_record::{
-    Customer, RouteLimits, TimeWindow, Vehicle, VehicleBreak, abs, customer_at, infinity,
-    is_finite, max, min, penalty_at, total_less, window_at,
+    Customer, Customers, DistanceMatrix, Network, Problem, RouteLimits, TimeWindow, Vehicle,
+    VehicleBreak, abs, customer_at, infinity, is_finite, max, min, penalty_at, total_less,
+    window_at,
 };
 
-// The cell from one place to another. Every place on a checked problem lies in the matrix, so no cell is ever out of it.
-pub fn get(cells: &[f64], n: usize, from: usize, to: usize) -> f64
+// The cell from one place to another, of `n` by `n`. Every place on a checked problem lies in the matrix, so no cell is ever out of it.
+fn cell(cells: &[f64], n: usize, from: usize, to: usize) -> f64
     requires { (n ≤ 256) × (from < n) × (to < n) × (length cells.now ≡ n * n) }
     ensures { result ≡ cell cells.now n from to }
 {
     cells[from * n + to]
 }
 
-// The travel time from one place to another: the distance, unless there are times.
-pub fn travel_time(distances: &[f64], times: &[f64], n: usize, from: usize, to: usize) -> f64
-    requires square { Square (matrix n distances.now times.now) }
-    requires from_lt_n { (from < n) × (to < n) }
-    ensures { result ≡ travel_time (matrix n distances.now times.now) from to }
+// The distance from one place to another.
+pub fn get(roads: &DistanceMatrix, from: usize, to: usize) -> f64
+    requires { (roads.now.size ≤ 256) × (from < roads.now.size) × (to < roads.now.size)
+        × (length roads.now.distances ≡ roads.now.size * roads.now.size) }
+    ensures { result ≡ get roads.now from to }
 {
-    if times.len() == 0 {
-        get(distances, n, from, to)
+    cell(roads.distances, roads.size, from, to)
+}
+
+// The travel time from one place to another: the distance, unless there are times.
+pub fn travel_time(roads: &DistanceMatrix, from: usize, to: usize) -> f64
+    requires square { Square roads.now }
+    requires from_lt_n { (from < roads.now.size) × (to < roads.now.size) }
+    ensures { result ≡ travel_time roads.now from to }
+{
+    if roads.times.is_empty() {
+        get(roads, from, to)
     } else {
-        get(times, n, from, to)
+        cell(roads.times, roads.size, from, to)
     }
 }
 

@@ -2,18 +2,16 @@
 #![tactic(auto)]
 
 ghost use Rattle.std.specs.Prelude.{◌≡◌, ◌≤◌, length};
-ghost use Rattle.tail_exchange.specs.models.RouteLimits.{limits_of};
-ghost use Rattle.tail_exchange.specs.models.Problem.{problem, Admitted};
-ghost use Rattle.tail_exchange.specs.evaluation.Check.{route_checks_needed};
 ghost use Rattle.tail_exchange.specs.plan.Plan.{Holds, split, total};
 ghost use Rattle.tail_exchange.specs.perturbation.Perturb.{try_move};
 ghost use Rattle.tail_exchange.specs.perturbation.Parts.{drawn_exchange, drawn_tails, Movable};
 ghost use Rattle.tail_exchange.specs.perturbation.Moves.{Between};
+ghost use Rattle.tail_exchange.specs.evaluation.Given.{of_instance};
 
 use tail_exchange::{draw_bool, try_exchange, try_tails};
 
 // Of the crates below, passed on to those above.
-pub use tail_exchange::{Vehicle, draw, eject, other_than};
+pub use tail_exchange::{Instance, Vehicle, draw, eject, other_than};
 
 // A stop of route a and a stop of route b are drawn and exchanged, where both routes stay feasible.
 fn exchange_drawn(
@@ -23,29 +21,14 @@ fn exchange_drawn(
     d: u64,
     a: usize,
     b: usize,
-    needed: bool,
-    vehicle: Vehicle,
-    demand: &[i32],
-    n: usize,
-    distances: &[f64],
-    times: &[f64],
-    service: &[f64],
-    ready: &[f64],
-    due: &[f64],
-    penalty: &[f64],
-    flags: &[u8],
+    given: &Instance,
 )
-    requires admitted { Admitted (problem n demand.now service.now ready.now due.now penalty.now flags.now distances.now times.now vehicle) }
-    requires movable { Movable n tape.now lengths.now stops.old d × Between (split lengths.now stops.old) a b × (needed ≡ route_checks_needed flags.now (limits_of vehicle)) }
-    ensures { split lengths.now stops.new ≡ drawn_exchange (problem n demand.now service.now ready.now due.now penalty.now flags.now
-        distances.now times.now vehicle) tape.now d a b (split lengths.now stops.old) }
+    requires { Movable given.now.fleet.net.roads.size tape.now lengths.now stops.old d × Between (split lengths.now stops.old) a b }
+    ensures { split lengths.now stops.new ≡ drawn_exchange (of_instance given.now) tape.now d a b (split lengths.now stops.old) }
 {
     let i = draw(tape, d + 3, lengths[a] as usize);
     let j = draw(tape, d + 4, lengths[b] as usize);
-    try_exchange(
-        stops, lengths, a, i, b, j, needed, vehicle, demand, n, distances, times, service, ready,
-        due, penalty, flags,
-    );
+    try_exchange(stops, lengths, a, i, b, j, given);
 }
 
 // A tail of route a and a tail of route b are drawn and exchanged, where both routes stand then.
@@ -57,29 +40,15 @@ fn tails_drawn(
     d: u64,
     a: usize,
     b: usize,
-    needed: bool,
-    vehicle: Vehicle,
-    demand: &[i32],
-    n: usize,
-    distances: &[f64],
-    times: &[f64],
-    service: &[f64],
-    ready: &[f64],
-    due: &[f64],
-    penalty: &[f64],
-    flags: &[u8],
+    given: &Instance,
 )
-    requires admitted { Admitted (problem n demand.now service.now ready.now due.now penalty.now flags.now distances.now times.now vehicle) }
-    requires movable { Movable n tape.now lengths.old stops.old d × (length stops.old ≤ length work.old) × Between (split lengths.old stops.old) a b × (needed ≡ route_checks_needed flags.now (limits_of vehicle)) }
-    ensures { Holds (drawn_tails (problem n demand.now service.now ready.now due.now penalty.now flags.now
-        distances.now times.now vehicle) tape.now d a b (split lengths.old stops.old)) (total lengths.old) lengths.new stops.new }
+    requires { Movable given.now.fleet.net.roads.size tape.now lengths.old stops.old d × (length stops.old ≤ length work.old) × Between
+        (split lengths.old stops.old) a b }
+    ensures { Holds (drawn_tails (of_instance given.now) tape.now d a b (split lengths.old stops.old)) (total lengths.old) lengths.new stops.new }
 {
     let i = draw(tape, d + 3, lengths[a] as usize + 1);
     let j = draw(tape, d + 4, lengths[b] as usize + 1);
-    try_tails(
-        lengths, stops, work, a, i, b, j, needed, vehicle, demand, n, distances, times, service,
-        ready, due, penalty, flags,
-    );
+    try_tails(lengths, stops, work, a, i, b, j, given);
 }
 
 // The kind of the move is drawn, and the move tried.
@@ -91,32 +60,15 @@ pub fn try_move(
     d: u64,
     a: usize,
     b: usize,
-    needed: bool,
-    vehicle: Vehicle,
-    demand: &[i32],
-    n: usize,
-    distances: &[f64],
-    times: &[f64],
-    service: &[f64],
-    ready: &[f64],
-    due: &[f64],
-    penalty: &[f64],
-    flags: &[u8],
+    given: &Instance,
 )
-    requires admitted { Admitted (problem n demand.now service.now ready.now due.now penalty.now flags.now distances.now times.now vehicle) }
-    requires movable { Movable n tape.now lengths.old stops.old d × (length stops.old ≤ length work.old) × Between (split lengths.old stops.old) a b × (needed ≡ route_checks_needed flags.now (limits_of vehicle)) }
-    ensures { Holds (try_move (problem n demand.now service.now ready.now due.now penalty.now flags.now
-        distances.now times.now vehicle) tape.now d a b (split lengths.old stops.old)) (total lengths.old) lengths.new stops.new }
+    requires { Movable given.now.fleet.net.roads.size tape.now lengths.old stops.old d × (length stops.old ≤ length work.old) × Between
+        (split lengths.old stops.old) a b }
+    ensures { Holds (try_move (of_instance given.now) tape.now d a b (split lengths.old stops.old)) (total lengths.old) lengths.new stops.new }
 {
     if draw_bool(tape, d + 2) {
-        exchange_drawn(
-            stops, lengths, tape, d, a, b, needed, vehicle, demand, n, distances, times, service,
-            ready, due, penalty, flags,
-        );
+        exchange_drawn(stops, lengths, tape, d, a, b, given);
         return;
     }
-    tails_drawn(
-        lengths, stops, work, tape, d, a, b, needed, vehicle, demand, n, distances, times, service,
-        ready, due, penalty, flags,
-    );
+    tails_drawn(lengths, stops, work, tape, d, a, b, given);
 }

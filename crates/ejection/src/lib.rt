@@ -8,9 +8,9 @@ ghost use Rattle.ejection.specs.Asked.{Counted};
 
 // Of the crates below, passed on to those above.
 pub use insertion::{
-    Counts, LocalSearchNext, Pick, Reduction, Vehicle, checked, constrained, copy_part, feasible,
-    has_room, insertion_cost, may_pass, next_pick, offset, prepare, put_in, rounds, take_out,
-    within_capacity,
+    Counts, DistanceMatrix, Fleet, Instance, LocalSearchNext, Pick, Reduction, Vehicle, checked,
+    constrained, copy_part, feasible, has_room, insertion_cost, may_pass, next_pick, offset,
+    prepare, put_in, rounds, take_out, within_capacity,
 };
 
 // Who leaves a route and where the popped stop goes: the sum of their failures, what the insertion costs, the route, the two places in it

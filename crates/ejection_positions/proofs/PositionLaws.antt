@@ -10,10 +10,10 @@ use lib.Ieee.{Float}
 use borrow.Author.Rules.{rules}
 use Rattle.ejection.specs.laws.Loops.{loop, loop_same}
 use Rattle.ejection.specs.models.declared.vehicle.Vehicle.{Vehicle}
-use Rattle.ejection.specs.models.Problem.{DistanceMatrix, Problem, matrix, problem, of_demand, depot}
+use Rattle.ejection.specs.models.Problem.{DistanceMatrix, Problem, of_demand, depot, problem_of}
 use Rattle.ejection.specs.route_cost.Route.{insertion_cost}
 use Rattle.ejection.specs.route_load.Feasible.{has_room}
-use Rattle.ejection.specs.LocalSearchReadLaws.{insertion_any, room_any}
+use Rattle.ejection.specs.LocalSearchReadLaws.{room_any}
 use Rattle.ejection.specs.quick_test.Quick.{Times, times as times-along}
 use Rattle.ejection.specs.route_times.Prepared.{held, Prepared, prepared_missed, prepared_read, prepared_any}
 use Rattle.ejection.specs.insertion.Pass.{may_pass}
@@ -44,7 +44,7 @@ pub rank_told : (m : DistanceMatrix) (depot n c : ℕ) (left : List ℕ) (pos : 
     → x ≡ insertion_cost m depot left pos c → v ≡ outranks n x best → not v ≡ not (outranks n (insertion_cost m depot left pos c) best)
 rank_told m depot n c left pos best x v ex ev = rw (← ex, ← ev)
 
-pub ruleset position_laws = (insertion_any, position_beaten, position_refused, position_taken)
+pub ruleset position_laws = (position_beaten, position_refused, position_taken)
 
 -- ---- a turn of the loop over positions
 
@@ -67,19 +67,15 @@ positions_read p c n k i j left best w cells h e =
     e
 
 -- there is no room; the departures miss a window; the positions are tried
-module _ (size : ℕ) (demand : List ℤ) (service ready due penalty : List Float) (flags : List ℕ) (distances times : List Float) (vehicle : Vehicle)
-    (c : ℕ) (o : Out) (left : List ℕ) (best : Option Ejection) (v : Bool) (ev : v ≡ has_room (of_demand demand vehicle) left c) where
-  abbrev p : Problem
-  p = problem size demand service ready due penalty flags distances times vehicle
-
+module _ (p : Problem) (c : ℕ) (o : Out) (left : List ℕ) (best : Option Ejection) (v : Bool) (ev : v ≡ has_room (of_demand p.demand p.vehicle) left c) where
   abbrev unladen : Problem
-  unladen = problem size [] service ready due penalty flags distances times vehicle
+  unladen = problem_of [] p.places p.roads p.vehicle
 
   abbrev left_out : Option Ejection
   left_out = try_left p c o.failed o.route o.first o.second left best
 
   room : v ≡ has_room p left c
-  room = room_any size demand service ready due penalty flags distances times vehicle left c v ev
+  room = room_any p left c v ev
 
   pub kept_full : v ≡ false → best ≡ left_out
   unfolding try_left
@@ -87,7 +83,7 @@ module _ (size : ℕ) (demand : List ℤ) (service ready due penalty : List Floa
 
   module _ (h : v ≡ true) (w : Bool) (cells : List Float) (q : Prepared unladen left w cells) where
     prepared : Prepared p left w cells
-    prepared = prepared_any size demand service ready due penalty flags distances times vehicle left w cells q
+    prepared = prepared_any p left w cells q
 
     pub kept_missed : w ≡ false → best ≡ left_out
     unfolding try_left try_kept
@@ -108,7 +104,7 @@ module _ (size : ℕ) (demand : List ℤ) (service ready due penalty : List Floa
         ∙ sym (rw (← room, h) (positions_read p c o.failed o.route o.first o.second left best w cells prepared e))
 
   -- no position ranks first: each leaves the best so far
-  pub kept_beaten : v ≡ true → (b : Bool) → b ≡ none_outranks (matrix size distances []) vehicle.depot_id c o.failed left best → b ≡ true → best ≡ left_out
+  pub kept_beaten : v ≡ true → (b : Bool) → b ≡ none_outranks p.roads p.vehicle.depot_id c o.failed left best → b ≡ true → best ≡ left_out
   unfolding try_left none_outranks insertion_cost
   kept_beaten h b eb f =
       sym (rw (← room, h) (none_outranks_stays p c o.failed o.route o.first o.second left best (sym eb ∙ f) (times-along p left)))

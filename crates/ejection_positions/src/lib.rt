@@ -3,19 +3,18 @@
 
 ghost use Rattle.std.specs.Prelude.{◌≡◌, [], suc, ◌*◌, ◌<◌, ◌≤◌, length};
 ghost use Rattle.ejection.specs.laws.Loops.{loop};
-ghost use Rattle.ejection.specs.models.Customer.{customers};
-ghost use Rattle.ejection.specs.models.RouteLimits.{limits_of};
-ghost use Rattle.ejection.specs.models.Problem.{matrix, problem, Fit, Stops, Admitted};
-ghost use Rattle.ejection.specs.evaluation.Check.{route_checks_needed};
+ghost use Rattle.ejection.specs.models.Problem.{Stops};
 ghost use Rattle.ejection.specs.route_times.Prepared.{held};
 ghost use Rattle.ejection.specs.Eject.{try_left};
 ghost use Rattle.ejection_positions.specs.Pass.{none_outranks, pass_in_kept};
+ghost use Rattle.ejection.specs.evaluation.Given.{of_instance, of_fleet};
 
-use ejection::{has_room, insertion_cost, may_pass, outranks, prepare};
+use ejection::{DistanceMatrix, has_room, insertion_cost, may_pass, outranks, prepare};
 
 // Of the crates below, passed on to those above.
 pub use ejection::{
-    Ejection, Vehicle, checked, fails_more, failure_sum, feasible, keep, within_capacity,
+    Ejection, Fleet, Instance, Vehicle, checked, fails_more, failure_sum, feasible, keep,
+    within_capacity,
 };
 
 // Who leaves: the sum of their failures, the route and their two places in it, the same one twice where one stop leaves.
@@ -35,31 +34,14 @@ fn try_in_kept(
     pos: usize,
     c: usize,
     best: Option<Ejection>,
-    needed: bool,
-    vehicle: Vehicle,
-    n: usize,
-    distances: &[f64],
-    times: &[f64],
-    service: &[f64],
-    ready: &[f64],
-    due: &[f64],
-    penalty: &[f64],
-    flags: &[u8],
+    fleet: &Fleet,
 ) -> Option<Ejection>
-    requires fit { Fit (customers service.now ready.now due.now penalty.now flags.now) (matrix n distances.now times.now) }
-    requires depot_id_bound { (vehicle.depot_id < n) × (c < n) × (pos ≤ length left.now) × Stops n left.now × (512 ≤ length cells.now)
-        × (needed ≡ route_checks_needed flags.now (limits_of vehicle)) }
-    ensures { result ≡ pass_in_kept (problem n [] service.now ready.now due.now penalty.now flags.now
-        distances.now times.now vehicle) c out.failed out.route out.first out.second left.now
-        (held (length left.now) cells.now) pos best }
+    requires { (c < fleet.now.net.roads.size) × (pos ≤ length left.now) × Stops fleet.now.net.roads.size left.now × (512 ≤ length cells.now) }
+    ensures { result ≡ pass_in_kept (of_fleet fleet.now) c out.failed out.route out.first out.second left.now (held (length left.now) cells.now) pos
+        best }
 {
-    let cost = insertion_cost(left, pos, c, vehicle.depot_id, n, distances);
-    if outranks(out.failed, cost, best)
-        && may_pass(
-            left, cells, pos, c, needed, vehicle, n, distances, times, service, ready, due,
-            penalty, flags,
-        )
-    {
+    let cost = insertion_cost(left, pos, c, fleet.vehicle.depot_id, &fleet.net.roads);
+    if outranks(out.failed, cost, best) && may_pass(left, cells, pos, c, fleet) {
         Some(Ejection {
             failed: out.failed,
             cost: cost,
@@ -80,30 +62,15 @@ fn try_positions(
     out: Out,
     c: usize,
     best: Option<Ejection>,
-    needed: bool,
-    vehicle: Vehicle,
-    n: usize,
-    distances: &[f64],
-    times: &[f64],
-    service: &[f64],
-    ready: &[f64],
-    due: &[f64],
-    penalty: &[f64],
-    flags: &[u8],
+    fleet: &Fleet,
 ) -> Option<Ejection>
-    requires fit { Fit (customers service.now ready.now due.now penalty.now flags.now) (matrix n distances.now times.now) }
-    requires depot_id_bound { (vehicle.depot_id < n) × (c < n) × Stops n left.now × (512 ≤ length cells.now)
-        × (needed ≡ route_checks_needed flags.now (limits_of vehicle)) }
-    ensures { result ≡ loop (suc (length left.now)) (pass_in_kept (problem n [] service.now ready.now due.now penalty.now flags.now
-        distances.now times.now vehicle) c out.failed out.route out.first out.second left.now
-        (held (length left.now) cells.now)) best }
+    requires { (c < fleet.now.net.roads.size) × Stops fleet.now.net.roads.size left.now × (512 ≤ length cells.now) }
+    ensures { result ≡ loop (suc (length left.now))
+        (pass_in_kept (of_fleet fleet.now) c out.failed out.route out.first out.second left.now (held (length left.now) cells.now)) best }
 {
     let mut found = best;
     for pos in 0..left.len() + 1 {
-        found = try_in_kept(
-            left, cells, out, pos, c, found, needed, vehicle, n, distances, times, service, ready,
-            due, penalty, flags,
-        );
+        found = try_in_kept(left, cells, out, pos, c, found, fleet);
     }
     found
 }
@@ -115,15 +82,14 @@ fn none_outranks(
     c: usize,
     best: Option<Ejection>,
     depot: usize,
-    n: usize,
-    distances: &[f64],
+    roads: &DistanceMatrix,
 ) -> bool
-    requires n_bound { (n ≤ 256) × (length distances.now ≡ n * n) }
-    requires depot_lt_n { (depot < n) × (c < n) × Stops n kept.now }
-    ensures { result ≡ none_outranks (matrix n distances.now []) depot c failed kept.now best }
+    requires n_bound { (roads.now.size ≤ 256) × (length roads.now.distances ≡ roads.now.size * roads.now.size) }
+    requires depot_lt_n { (depot < roads.now.size) × (c < roads.now.size) × Stops roads.now.size kept.now }
+    ensures { result ≡ none_outranks roads.now depot c failed kept.now best }
 {
     for pos in 0..kept.len() + 1 {
-        let cost = insertion_cost(kept, pos, c, depot, n, distances);
+        let cost = insertion_cost(kept, pos, c, depot, roads);
         if outranks(failed, cost, best) {
             return false;
         }
@@ -138,35 +104,25 @@ pub fn try_left(
     out: Out,
     c: usize,
     best: Option<Ejection>,
-    needed: bool,
-    vehicle: Vehicle,
-    demand: &[i32],
-    n: usize,
-    distances: &[f64],
-    times: &[f64],
-    service: &[f64],
-    ready: &[f64],
-    due: &[f64],
-    penalty: &[f64],
-    flags: &[u8],
+    given: &Instance,
 ) -> Option<Ejection>
-    requires admitted { Admitted (problem n demand.now service.now ready.now due.now penalty.now flags.now distances.now times.now vehicle) }
-    requires c_lt_n { (c < n) × Stops n left.now × (512 ≤ length cells.old) × (needed ≡ route_checks_needed flags.now (limits_of vehicle)) }
-    ensures { result ≡ try_left (problem n demand.now service.now ready.now due.now penalty.now flags.now
-        distances.now times.now vehicle) c out.failed out.route out.first out.second left.now best }
+    requires { (c < given.now.fleet.net.roads.size) × Stops given.now.fleet.net.roads.size left.now × (512 ≤ length cells.old) }
+    ensures { result ≡ try_left (of_instance given.now) c out.failed out.route out.first out.second left.now best }
 {
-    if !has_room(left, c, demand, vehicle)
-        || none_outranks(left, out.failed, c, best, vehicle.depot_id, n, distances)
+    if !has_room(left, c, given.demand, given.fleet.vehicle)
+        || none_outranks(
+            left,
+            out.failed,
+            c,
+            best,
+            given.fleet.vehicle.depot_id,
+            &given.fleet.net.roads,
+        )
     {
         return best;
     }
-    if prepare(
-        cells, left, needed, vehicle, n, distances, times, service, ready, due, penalty, flags,
-    ) {
-        try_positions(
-            left, cells, out, c, best, needed, vehicle, n, distances, times, service, ready, due,
-            penalty, flags,
-        )
+    if prepare(cells, left, &given.fleet) {
+        try_positions(left, cells, out, c, best, &given.fleet)
     } else {
         best
     }

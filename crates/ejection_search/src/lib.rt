@@ -4,18 +4,17 @@
 
 ghost use Rattle.std.specs.Prelude.{◌≡◌, ◌-◌, ◌<◌, ◌≤◌, length, take, drop};
 ghost use Rattle.route_ejection.specs.laws.All.{All};
-ghost use Rattle.route_ejection.specs.models.RouteLimits.{limits_of};
-ghost use Rattle.route_ejection.specs.models.Problem.{problem, Stops, Admitted};
-ghost use Rattle.route_ejection.specs.evaluation.Check.{route_checks_needed};
+ghost use Rattle.route_ejection.specs.models.Problem.{Stops};
 ghost use Rattle.route_ejection.specs.plan.Plan.{Lent, split};
 ghost use Rattle.route_ejection.specs.ejection.Eject.{eject};
 ghost use Rattle.route_ejection.specs.ejection.Asked.{Counted, Sought};
 ghost use Rattle.ejection_search.specs.Some.{try_some, eject_some};
+ghost use Rattle.route_ejection.specs.evaluation.Given.{of_instance};
 
 use route_ejection::{Ejection, try_one, try_two};
 
 // Of the crates below, passed on to those above.
-pub use route_ejection::{Vehicle, checked, feasible, within_capacity};
+pub use route_ejection::{Fleet, Instance, Vehicle, checked, feasible, within_capacity};
 
 // One stop or two leave route k.
 fn try_some(
@@ -27,33 +26,16 @@ fn try_some(
     two: bool,
     c: usize,
     best: Option<Ejection>,
-    needed: bool,
-    vehicle: Vehicle,
-    demand: &[i32],
-    n: usize,
-    distances: &[f64],
-    times: &[f64],
-    service: &[f64],
-    ready: &[f64],
-    due: &[f64],
-    penalty: &[f64],
-    flags: &[u8],
+    given: &Instance,
 ) -> Option<Ejection>
-    requires sought { Sought (problem n demand.now service.now ready.now due.now penalty.now flags.now distances.now times.now vehicle) failures.now route.now c needed }
+    requires sought { Sought (of_instance given.now) failures.now route.now c given.now.fleet.needed }
     requires route_in_bounds { (length route.now ≤ length work.old) × (512 ≤ length cells.old) }
-    ensures { result ≡ try_some two (problem n demand.now service.now ready.now due.now penalty.now flags.now
-        distances.now times.now vehicle) c failures.now k route.now best }
+    ensures { result ≡ try_some two (of_instance given.now) c failures.now k route.now best }
 {
     if two {
-        try_two(
-            work, cells, failures, route, k, c, best, needed, vehicle, demand, n, distances, times,
-            service, ready, due, penalty, flags,
-        )
+        try_two(work, cells, failures, route, k, c, best, given)
     } else {
-        try_one(
-            work, cells, failures, route, k, c, best, needed, vehicle, demand, n, distances, times,
-            service, ready, due, penalty, flags,
-        )
+        try_one(work, cells, failures, route, k, c, best, given)
     }
 }
 
@@ -69,23 +51,12 @@ fn try_part(
     two: bool,
     c: usize,
     best: Option<Ejection>,
-    needed: bool,
-    vehicle: Vehicle,
-    demand: &[i32],
-    n: usize,
-    distances: &[f64],
-    times: &[f64],
-    service: &[f64],
-    ready: &[f64],
-    due: &[f64],
-    penalty: &[f64],
-    flags: &[u8],
+    given: &Instance,
 ) -> Option<Ejection>
     requires at_le_end { (at ≤ end) × (end ≤ length stops.now) }
-    requires sought { Sought (problem n demand.now service.now ready.now due.now penalty.now flags.now distances.now times.now vehicle) failures.now (take (end - at) (drop at stops.now)) c needed }
+    requires sought { Sought (of_instance given.now) failures.now (take (end - at) (drop at stops.now)) c given.now.fleet.needed }
     requires stops_in_bounds { (length stops.now ≤ length work.old) × (512 ≤ length cells.old) }
-    ensures { result ≡ try_some two (problem n demand.now service.now ready.now due.now penalty.now flags.now
-        distances.now times.now vehicle) c failures.now k (take (end - at) (drop at stops.now)) best }
+    ensures { result ≡ try_some two (of_instance given.now) c failures.now k (take (end - at) (drop at stops.now)) best }
 {
     try_some(
         work,
@@ -96,17 +67,7 @@ fn try_part(
         two,
         c,
         best,
-        needed,
-        vehicle,
-        demand,
-        n,
-        distances,
-        times,
-        service,
-        ready,
-        due,
-        penalty,
-        flags,
+        given,
     )
 }
 
@@ -119,31 +80,19 @@ fn eject_some(
     stops: &[u16],
     two: bool,
     c: usize,
-    needed: bool,
-    vehicle: Vehicle,
-    demand: &[i32],
-    n: usize,
-    distances: &[f64],
-    times: &[f64],
-    service: &[f64],
-    ready: &[f64],
-    due: &[f64],
-    penalty: &[f64],
-    flags: &[u8],
+    given: &Instance,
 ) -> Option<Ejection>
-    requires admitted { Admitted (problem n demand.now service.now ready.now due.now penalty.now flags.now distances.now times.now vehicle) }
-    requires lent { Lent lengths.now stops.now × All (Stops n) (split lengths.now stops.now) × Counted n failures.now × (c < n)
-        × (length stops.now ≤ length work.old) × (512 ≤ length cells.old) × (needed ≡ route_checks_needed flags.now (limits_of vehicle)) }
-    ensures { result ≡ eject_some two (problem n demand.now service.now ready.now due.now penalty.now flags.now
-        distances.now times.now vehicle) (split lengths.now stops.now) c failures.now }
+    requires { Lent lengths.now stops.now × All (Stops given.now.fleet.net.roads.size) (split lengths.now stops.now) × Counted
+        given.now.fleet.net.roads.size failures.now × (c < given.now.fleet.net.roads.size) × (length stops.now ≤ length work.old)
+        × (512 ≤ length cells.old) }
+    ensures { result ≡ eject_some two (of_instance given.now) (split lengths.now stops.now) c failures.now }
 {
     let mut best = None;
     let mut at = 0;
     for (k, length) in lengths.iter().enumerate() {
         let end = at + *length as usize;
         best = try_part(
-            work, cells, failures, stops, at, end, k, two, c, best, needed, vehicle, demand, n,
-            distances, times, service, ready, due, penalty, flags,
+            work, cells, failures, stops, at, end, k, two, c, best, given,
         );
         at = end;
     }
@@ -158,33 +107,16 @@ pub fn eject(
     lengths: &[u16],
     stops: &[u16],
     c: usize,
-    needed: bool,
-    vehicle: Vehicle,
-    demand: &[i32],
-    n: usize,
-    distances: &[f64],
-    times: &[f64],
-    service: &[f64],
-    ready: &[f64],
-    due: &[f64],
-    penalty: &[f64],
-    flags: &[u8],
+    given: &Instance,
 ) -> Option<Ejection>
-    requires admitted { Admitted (problem n demand.now service.now ready.now due.now penalty.now flags.now distances.now times.now vehicle) }
-    requires lent { Lent lengths.now stops.now × All (Stops n) (split lengths.now stops.now) × Counted n failures.now × (c < n)
-        × (length stops.now ≤ length work.old) × (512 ≤ length cells.old) × (needed ≡ route_checks_needed flags.now (limits_of vehicle)) }
-    ensures { result ≡ eject (problem n demand.now service.now ready.now due.now penalty.now flags.now
-        distances.now times.now vehicle) (split lengths.now stops.now) c failures.now }
+    requires { Lent lengths.now stops.now × All (Stops given.now.fleet.net.roads.size) (split lengths.now stops.now) × Counted
+        given.now.fleet.net.roads.size failures.now × (c < given.now.fleet.net.roads.size) × (length stops.now ≤ length work.old)
+        × (512 ≤ length cells.old) }
+    ensures { result ≡ eject (of_instance given.now) (split lengths.now stops.now) c failures.now }
 {
-    let one = eject_some(
-        work, cells, failures, lengths, stops, false, c, needed, vehicle, demand, n, distances,
-        times, service, ready, due, penalty, flags,
-    );
+    let one = eject_some(work, cells, failures, lengths, stops, false, c, given);
     match one {
         Some(_) => one,
-        None => eject_some(
-            work, cells, failures, lengths, stops, true, c, needed, vehicle, demand, n, distances,
-            times, service, ready, due, penalty, flags,
-        ),
+        None => eject_some(work, cells, failures, lengths, stops, true, c, given),
     }
 }

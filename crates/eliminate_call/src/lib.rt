@@ -2,16 +2,17 @@
 #![tactic(auto)]
 
 ghost use Rattle.std.specs.Prelude.{◌≡◌, length};
-ghost use Rattle.route_elimination.specs.models.Problem.{problem};
+ghost use Rattle.route_elimination.specs.models.Lent.{of_problem};
 ghost use Rattle.planner.specs.Calls.{public_eliminate};
 ghost use Rattle.planner.specs.Told.{reply_of, slices_of, work_of, FreeIfAnswered};
 
+use planner::instance;
 use refusals::calls::eliminate_refusal;
 use route_elimination::eliminate_routes;
 
 // Of the crates below, passed on to those above.
 pub use planner::{Reduction, Refusal};
-pub use route_elimination::{Counts, Vehicle};
+pub use route_elimination::{Counts, Problem, Vehicle};
 
 // Fewer routes where the others take a route's stops for less than it costs. The f64 work cells are counted and not touched.
 pub fn eliminate(
@@ -19,42 +20,14 @@ pub fn eliminate(
     stops: &mut [u16],
     work: &mut [u16],
     cells: &[f64],
-    n: usize,
-    demand: &[i32],
-    service: &[f64],
-    ready: &[f64],
-    due: &[f64],
-    penalty: &[f64],
-    flags: &[u8],
-    distances: &[f64],
-    times: &[f64],
-    vehicle: Vehicle,
+    problem: &Problem,
 ) -> Result<Reduction, Refusal>
-    ensures reply { reply_of result lengths.new stops.new ≡ public_eliminate (problem n demand.now service.now ready.now due.now penalty.now flags.now
-        distances.now times.now vehicle)
-        (slices_of lengths.old stops.old) (work_of (length work.old) (length cells.now)) }
+    ensures reply { reply_of result lengths.new stops.new ≡ public_eliminate (of_problem problem.now) (slices_of lengths.old stops.old)
+        (work_of (length work.old) (length cells.now)) }
     ensures work { FreeIfAnswered result work.old work.new }
 {
-    eliminate_refusal(
-        lengths,
-        stops,
-        n,
-        demand,
-        service,
-        ready,
-        due,
-        penalty,
-        flags,
-        distances,
-        times,
-        vehicle,
-        work.len(),
-        cells.len(),
-    )?; // before the first attempt
-    let routes = eliminate_routes(
-        lengths, stops, work, vehicle, demand, n, distances, times, service, ready, due, penalty,
-        flags,
-    );
+    eliminate_refusal(lengths, stops, problem, work.len(), cells.len())?; // before the first attempt
+    let routes = eliminate_routes(lengths, stops, work, &instance(problem));
     Ok(Reduction {
         routes,
         counts: Counts { steps: 0, draws: 0 },

@@ -1,5 +1,6 @@
 -- What the contracts of this crate cite.
 -- crates below, passed on to those above
+pub use Rattle.route_saving.specs.evaluation as evaluation
 pub use Rattle.route_saving.specs.models as models
 pub use Rattle.plan_copy.specs.plan as plan
 pub use Rattle.route_saving.specs.route_order as route_order

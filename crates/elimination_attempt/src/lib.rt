@@ -3,12 +3,12 @@
 #![tactic(auto)]
 
 ghost use Rattle.std.specs.Prelude.{◌≡◌, ◌+◌, ◌≤◌, length};
-ghost use Rattle.route_saving.specs.models.Problem.{matrix, problem};
 ghost use Rattle.plan_copy.specs.plan.Plan.{split};
 ghost use Rattle.route_saving.specs.local_search.Options.{then_some};
 ghost use Rattle.route_saving.specs.route_cost.Route.{gain_floor};
 ghost use Rattle.route_saving.specs.elimination_moves.Eliminate.{without_route};
 ghost use Rattle.route_saving.specs.emptied_route.Attempts.{Attempted, emptied, fewer, Left};
+ghost use Rattle.route_saving.specs.evaluation.Given.{of_instance};
 
 use plan_copy::{restore, save};
 use route_saving::{empty_route, is_finite, saved_by};
@@ -16,8 +16,8 @@ use route_saving::{empty_route, is_finite, saved_by};
 // Of the crates below, passed on to those above.
 pub use plan_copy::drop_empty;
 pub use route_saving::{
-    Counts, LocalSearchNext, Pick, Reduction, Vehicle, constrained, has_soft_windows, next_pick,
-    route_cost_gain_floor,
+    Counts, Instance, LocalSearchNext, Pick, Problem, Reduction, Vehicle, constrained,
+    has_soft_windows, next_pick, route_cost_gain_floor,
 };
 
 // Route r goes and its stops find other places, where that gains: else both slices are put back from the work cells.
@@ -29,29 +29,16 @@ fn try_without(
     saved: f64,
     floor: f64,
     soft: bool,
-    needed: bool,
-    vehicle: Vehicle,
-    demand: &[i32],
-    n: usize,
-    distances: &[f64],
-    times: &[f64],
-    service: &[f64],
-    ready: &[f64],
-    due: &[f64],
-    penalty: &[f64],
-    flags: &[u8],
+    given: &Instance,
 ) -> bool
-    requires { Attempted (problem n demand.now service.now ready.now due.now penalty.now flags.now distances.now times.now vehicle) soft needed lengths.old stops.old r
-        × (length lengths.old + length stops.old ≤ length work.old) × (floor ≡ gain_floor (matrix n distances.now times.now)) }
-    ensures plan { then_some result (split (fewer lengths.old lengths.new) stops.new) ≡ emptied (problem n demand.now service.now ready.now due.now penalty.now flags.now
-        distances.now times.now vehicle) saved (split lengths.old stops.old) r }
+    requires { Attempted (of_instance given.now) soft given.now.fleet.needed lengths.old stops.old r
+        × (length lengths.old + length stops.old ≤ length work.old) × (floor ≡ gain_floor given.now.fleet.net.roads) }
+    ensures plan { then_some result (split (fewer lengths.old lengths.new) stops.new) ≡ emptied (of_instance given.now) saved
+        (split lengths.old stops.old) r }
     ensures slices { Left result lengths.old stops.old lengths.new stops.new }
 {
     save(work, lengths, stops);
-    let gained = empty_route(
-        lengths, stops, r, saved, floor, soft, needed, vehicle, demand, n, distances, times,
-        service, ready, due, penalty, flags,
-    );
+    let gained = empty_route(lengths, stops, r, saved, floor, soft, given);
     if gained {
         return true;
     }
@@ -68,33 +55,17 @@ pub fn without_route(
     r: usize,
     floor: f64,
     soft: bool,
-    needed: bool,
-    vehicle: Vehicle,
-    demand: &[i32],
-    n: usize,
-    distances: &[f64],
-    times: &[f64],
-    service: &[f64],
-    ready: &[f64],
-    due: &[f64],
-    penalty: &[f64],
-    flags: &[u8],
+    given: &Instance,
 ) -> bool
-    requires { Attempted (problem n demand.now service.now ready.now due.now penalty.now flags.now distances.now times.now vehicle) soft needed lengths.old stops.old r
-        × (length lengths.old + length stops.old ≤ length work.old) × (floor ≡ gain_floor (matrix n distances.now times.now)) }
-    ensures plan { then_some result (split (fewer lengths.old lengths.new) stops.new) ≡ without_route (problem n demand.now service.now ready.now due.now penalty.now flags.now
-        distances.now times.now vehicle) (split lengths.old stops.old) r }
+    requires { Attempted (of_instance given.now) soft given.now.fleet.needed lengths.old stops.old r
+        × (length lengths.old + length stops.old ≤ length work.old) × (floor ≡ gain_floor given.now.fleet.net.roads) }
+    ensures plan { then_some result (split (fewer lengths.old lengths.new) stops.new) ≡ without_route (of_instance given.now)
+        (split lengths.old stops.old) r }
     ensures slices { Left result lengths.old stops.old lengths.new stops.new }
 {
-    let saved = saved_by(
-        lengths, stops, r, soft, needed, vehicle, demand, n, distances, times, service, ready, due,
-        penalty, flags,
-    );
+    let saved = saved_by(lengths, stops, r, soft, given);
     if is_finite(saved) {
-        return try_without(
-            lengths, stops, work, r, saved, floor, soft, needed, vehicle, demand, n, distances,
-            times, service, ready, due, penalty, flags,
-        );
+        return try_without(lengths, stops, work, r, saved, floor, soft, given);
     }
     false
 }

@@ -1,6 +1,7 @@
 -- What the search asks for.
 pub mod Eliminating
 -- crates below, passed on to those above
+pub use Rattle.elimination_attempt.specs.evaluation as evaluation
 pub use Rattle.elimination_attempt.specs.models as models
 pub use Rattle.elimination_attempt.specs.plan as plan
 pub use Rattle.elimination_attempt.specs.route_order as route_order

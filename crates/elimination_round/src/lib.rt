@@ -3,7 +3,6 @@
 #![tactic(auto)]
 
 ghost use Rattle.std.specs.Prelude.{◌≡◌};
-ghost use Rattle.elimination_attempt.specs.models.Problem.{matrix, problem};
 ghost use Rattle.elimination_attempt.specs.plan.Plan.{split};
 ghost use Rattle.elimination_attempt.specs.route_order.Order.{following};
 ghost use Rattle.elimination_attempt.specs.route_load.Feasible.{constrained};
@@ -13,13 +12,14 @@ ghost use Rattle.elimination_attempt.specs.local_search.Search.{but_last, tried_
 ghost use Rattle.elimination_attempt.specs.reinsertion_worth.Worth.{soft as soft-in};
 ghost use Rattle.elimination_attempt.specs.elimination_moves.Eliminate.{attempt};
 ghost use Rattle.elimination_round.specs.Eliminating.{Eliminating};
+ghost use Rattle.elimination_attempt.specs.evaluation.Given.{of_instance};
 
 use elimination_attempt::{LocalSearchNext as Next, next_pick, without_route};
 
 // Of the crates below, passed on to those above.
 pub use elimination_attempt::{
-    Counts, LocalSearchNext, Pick, Reduction, Vehicle, constrained, drop_empty, has_soft_windows,
-    route_cost_gain_floor,
+    Counts, Instance, LocalSearchNext, Pick, Problem, Reduction, Vehicle, constrained, drop_empty,
+    has_soft_windows, route_cost_gain_floor,
 };
 
 // The attempt at the route that comes next after the last pick. It counts nothing.
@@ -30,36 +30,19 @@ pub fn try_next(
     last: Option<Pick>,
     floor: f64,
     soft: bool,
-    needed: bool,
-    vehicle: Vehicle,
-    demand: &[i32],
-    n: usize,
-    distances: &[f64],
-    times: &[f64],
-    service: &[f64],
-    ready: &[f64],
-    due: &[f64],
-    penalty: &[f64],
-    flags: &[u8],
+    given: &Instance,
 ) -> Next
-    requires eliminating { Eliminating (problem n demand.now service.now ready.now due.now penalty.now flags.now distances.now times.now vehicle) lengths.old stops.old work.old }
-    requires soft_value { (soft ≡ soft-in (problem n demand.now service.now ready.now due.now penalty.now flags.now distances.now times.now vehicle))
-        × (needed ≡ constrained (problem n demand.now service.now ready.now due.now penalty.now flags.now distances.now times.now vehicle))
-        × (floor ≡ gain_floor (matrix n distances.now times.now)) }
-    ensures round { tried_next (attempt (problem n demand.now service.now ready.now due.now penalty.now flags.now
-        distances.now times.now vehicle)) (split lengths.old stops.old) lengths.old uncounted
-        result (split (but_last lengths.new) stops.new) ≡ try_each (attempt (problem n demand.now service.now ready.now due.now penalty.now flags.now
-        distances.now times.now vehicle))
-        (split lengths.old stops.old) (following lengths.old last) uncounted }
-    ensures held { NextLeaves 0 n lengths.old stops.old last uncounted result lengths.new stops.new }
+    requires eliminating { Eliminating (of_instance given.now) lengths.old stops.old work.old }
+    requires soft_value { (soft ≡ soft-in (of_instance given.now)) × (floor ≡ gain_floor given.now.fleet.net.roads) }
+    ensures round { tried_next (attempt (of_instance given.now)) (split lengths.old stops.old) lengths.old uncounted result
+        (split (but_last lengths.new) stops.new) ≡ try_each (attempt (of_instance given.now)) (split lengths.old stops.old)
+        (following lengths.old last) uncounted }
+    ensures held { NextLeaves 0 given.now.fleet.net.roads.size lengths.old stops.old last uncounted result lengths.new stops.new }
 {
     let Some(pick) = next_pick(lengths, last) else {
         return Next::End;
     };
-    let gained = without_route(
-        lengths, stops, work, pick.route, floor, soft, needed, vehicle, demand, n, distances,
-        times, service, ready, due, penalty, flags,
-    );
+    let gained = without_route(lengths, stops, work, pick.route, floor, soft, given);
     if gained {
         return Next::Accepted(Counts { steps: 0, draws: 0 });
     }

@@ -1,6 +1,7 @@
 -- What an attempt asks and leaves.
 pub mod Attempts
 -- crates below, passed on to those above
+pub use Rattle.moved_stops.specs.evaluation as evaluation
 pub use Rattle.moved_stops.specs.floats as floats
 pub use Rattle.moved_stops.specs.models as models
 pub use Rattle.route_removal.specs.plan as plan

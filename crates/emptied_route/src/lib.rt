@@ -2,7 +2,6 @@
 #![tactic(auto)]
 
 ghost use Rattle.std.specs.Prelude.{◌≡◌, true, ◌++◌, ◌+◌, ◌-◌, ◌<◌, ◌≤◌, length, get_or, take, drop};
-ghost use Rattle.moved_stops.specs.models.Problem.{matrix, problem};
 ghost use Rattle.route_removal.specs.plan.Plan.{Lent, split, route, total};
 ghost use Rattle.moved_stops.specs.local_search.Options.{then_some};
 ghost use Rattle.moved_stops.specs.route_cost.Route.{gain_floor};
@@ -10,14 +9,15 @@ ghost use Rattle.moved_stops.specs.elimination_moves.Eliminate.{move_all};
 ghost use Rattle.moved_stops.specs.elimination_moves.Largest.{in_order};
 ghost use Rattle.moved_stops.specs.stop_moves.Moves.{held_by, Waiting, Kept};
 ghost use Rattle.emptied_route.specs.Attempts.{Attempted, emptied, fewer, Accepted};
+ghost use Rattle.moved_stops.specs.evaluation.Given.{of_instance};
 
 use moved_stops::move_all;
 use route_removal::{copy_part, erase_route};
 
 // Of the crates below, passed on to those above.
 pub use moved_stops::{
-    Counts, LocalSearchNext, Pick, Reduction, Vehicle, constrained, has_soft_windows, is_finite,
-    next_pick, route_cost_gain_floor, worth,
+    Counts, Instance, LocalSearchNext, Pick, Problem, Reduction, Vehicle, constrained,
+    has_soft_windows, is_finite, next_pick, route_cost_gain_floor, worth,
 };
 pub use route_removal::offset;
 
@@ -38,23 +38,14 @@ fn move_into(
     count: usize,
     saved: f64,
     soft: bool,
-    needed: bool,
-    vehicle: Vehicle,
-    demand: &[i32],
-    n: usize,
-    distances: &[f64],
-    times: &[f64],
-    service: &[f64],
-    ready: &[f64],
-    due: &[f64],
-    penalty: &[f64],
-    flags: &[u8],
+    given: &Instance,
 ) -> Option<f64>
-    requires { Waiting (problem n demand.now service.now ready.now due.now penalty.now flags.now distances.now times.now vehicle) soft needed (fewer lengths.old lengths.old) stops.old left.old count × (0 < length lengths.old) }
-    ensures moved { held_by result (split (fewer lengths.old lengths.new) stops.new) ≡ move_all (problem n demand.now service.now ready.now due.now penalty.now flags.now
-        distances.now times.now vehicle) saved
-        (in_order demand.now count (take count left.old)) (split (fewer lengths.old lengths.old) stops.old) }
-    ensures kept { Kept n result (total (fewer lengths.old lengths.old) + count) (fewer lengths.old lengths.new) stops.new }
+    requires { Waiting (of_instance given.now) soft given.now.fleet.needed (fewer lengths.old lengths.old) stops.old left.old count
+        × (0 < length lengths.old) }
+    ensures moved { held_by result (split (fewer lengths.old lengths.new) stops.new) ≡ move_all (of_instance given.now) saved
+        (in_order given.now.demand.now count (take count left.old)) (split (fewer lengths.old lengths.old) stops.old) }
+    ensures kept { Kept given.now.fleet.net.roads.size result (total (fewer lengths.old lengths.old) + count) (fewer lengths.old lengths.new)
+        stops.new }
     ensures last { lengths.new ≡ (fewer lengths.old lengths.new) ++ drop (length lengths.old - 1) lengths.old }
 {
     let last = lengths.len() - 1;
@@ -65,17 +56,7 @@ fn move_into(
         count,
         saved,
         soft,
-        needed,
-        vehicle,
-        demand,
-        n,
-        distances,
-        times,
-        service,
-        ready,
-        due,
-        penalty,
-        flags,
+        given,
     )
 }
 
@@ -87,31 +68,19 @@ pub fn empty_route(
     saved: f64,
     floor: f64,
     soft: bool,
-    needed: bool,
-    vehicle: Vehicle,
-    demand: &[i32],
-    n: usize,
-    distances: &[f64],
-    times: &[f64],
-    service: &[f64],
-    ready: &[f64],
-    due: &[f64],
-    penalty: &[f64],
-    flags: &[u8],
+    given: &Instance,
 ) -> bool
-    requires { Attempted (problem n demand.now service.now ready.now due.now penalty.now flags.now distances.now times.now vehicle) soft needed lengths.old stops.old r × (floor ≡ gain_floor (matrix n distances.now times.now)) }
-    ensures plan { then_some result (split (fewer lengths.old lengths.new) stops.new) ≡ emptied (problem n demand.now service.now ready.now due.now penalty.now flags.now
-        distances.now times.now vehicle) saved (split lengths.old stops.old) r }
+    requires { Attempted (of_instance given.now) soft given.now.fleet.needed lengths.old stops.old r
+        × (floor ≡ gain_floor given.now.fleet.net.roads) }
+    ensures plan { then_some result (split (fewer lengths.old lengths.new) stops.new) ≡ emptied (of_instance given.now) saved
+        (split lengths.old stops.old) r }
     ensures kept { result ≡ true → Accepted lengths.old lengths.new }
 {
     let mut left = [0u16; 256];
     let count = lengths[r] as usize;
     keep_route(&mut left, lengths, stops, r);
     erase_route(lengths, stops, r);
-    let sum = move_into(
-        lengths, stops, &mut left, count, saved, soft, needed, vehicle, demand, n, distances,
-        times, service, ready, due, penalty, flags,
-    );
+    let sum = move_into(lengths, stops, &mut left, count, saved, soft, given);
     let Some(added) = sum else {
         return false;
     };

@@ -13,7 +13,7 @@ use Rattle.break_schedule.specs.laws.Walks.{Walking, walking_start, walking_on, 
 use Rattle.break_schedule.specs.models.declared.vehicle.VehicleBreak.{VehicleBreak}
 use Rattle.break_schedule.specs.models.declared.limits.RouteLimits.{RouteLimits}
 use Rattle.break_schedule.specs.models.Customer.{Customers, customer_at}
-use Rattle.break_schedule.specs.models.Problem.{DistanceMatrix, matrix, Fit, Stops}
+use Rattle.break_schedule.specs.models.Problem.{DistanceMatrix, Fit, Stops}
 use Rattle.break_schedule.specs.distance.Matrix.{get, travel_time}
 use Rattle.evaluation.specs.declared.check.Way.{Way}
 use Rattle.break_schedule.specs.break_clock.declared.schedule.Riding.{Riding}
@@ -86,26 +86,25 @@ reach_place cs m w c h = go (reach cs m w c) (λ v e. reach_goes cs m w c v e)
     go None f = tt
     go (Some v) f = rw (f v refl) h
 
-module _ (cs : Customers) (n : ℕ) (distances times : List Float) where
-  all_there : (stops : List ℕ) (first w : Way) (x : Option Way) → All (λ c. c < n) stops → first.prev < n
-      → x ≡ reach_all cs (matrix n distances times) stops first → x ≡ Some w → w.prev < n
+module _ (cs : Customers) (m : DistanceMatrix) where
+  all_there : (stops : List ℕ) (first w : Way) (x : Option Way) → All (λ c. c < m.size) stops → first.prev < m.size
+      → x ≡ reach_all cs m stops first → x ≡ Some w → w.prev < m.size
   all_there stops first w x a h ex e =
-      let m = matrix n distances times in
-      subst (Place n) (sym ex ∙ e)
-      (walk_rule Some onward (reach cs m) None (λ s f. refl) (λ f. refl) reached_cases (Place n) (λ c. c < n) tt
+      subst (Place m.size) (sym ex ∙ e)
+      (walk_rule Some onward (reach cs m) None (λ s f. refl) (λ f. refl) reached_cases (Place m.size) (λ c. c < m.size) tt
       (λ w c h _. reach_place cs m w c h) stops first a h)
 
   -- the whole route, its front part, the route with a stop put in
-  module _ (route : List ℕ) (w : Way) (x : Option Way) (s : Stops n route) where
-    pub reach_all_there : (first : Way) → first.prev < n → x ≡ reach_all cs (matrix n distances times) route first → x ≡ Some w → w.prev < n
-    reach_all_there first h ex e = all_there route first w x (stops_all n route s) h ex e
+  module _ (route : List ℕ) (w : Way) (x : Option Way) (s : Stops m.size route) where
+    pub reach_all_there : (first : Way) → first.prev < m.size → x ≡ reach_all cs m route first → x ≡ Some w → w.prev < m.size
+    reach_all_there first h ex e = all_there route first w x (stops_all m.size route s) h ex e
 
-    pub front_there : (pos depot : ℕ) → depot < n → x ≡ reach_all cs (matrix n distances times) (take pos route) (set_out depot) → x ≡ Some w → w.prev < n
-    front_there pos depot h ex e = all_there (take pos route) (set_out depot) w x (all_take pos (stops_all n route s)) h ex e
+    pub front_there : (pos depot : ℕ) → depot < m.size → x ≡ reach_all cs m (take pos route) (set_out depot) → x ≡ Some w → w.prev < m.size
+    front_there pos depot h ex e = all_there (take pos route) (set_out depot) w x (all_take pos (stops_all m.size route s)) h ex e
 
-    pub trial_there : (pos c depot : ℕ) → c < n → depot < n → x ≡ reach_all cs (matrix n distances times) (insert_at pos c route) (set_out depot) → x ≡ Some w
-        → w.prev < n
-    trial_there pos c depot g h ex e = all_there (insert_at pos c route) (set_out depot) w x (all_insert_at pos c g (stops_all n route s)) h ex e
+    pub trial_there : (pos c depot : ℕ) → c < m.size → depot < m.size → x ≡ reach_all cs m (insert_at pos c route) (set_out depot) → x ≡ Some w
+        → w.prev < m.size
+    trial_there pos c depot g h ex e = all_there (insert_at pos c route) (set_out depot) w x (all_insert_at pos c g (stops_all m.size route s)) h ex e
 
 pub reach_there : (cs : Customers) (m : DistanceMatrix) (w v : Way) (c n : ℕ) (x : Option Way) → c < n → x ≡ reach cs m w c → x ≡ Some v → v.prev < n
 reach_there cs m w v c n x h ex e = rw (reach_goes cs m w c v (sym ex ∙ e)) h

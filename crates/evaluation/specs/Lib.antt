@@ -3,6 +3,8 @@
 pub mod Eval
 -- evaluation/mod.rs: whether a route passes
 pub mod Check
+-- the problem of a fleet, and of an instance
+pub mod Given
 -- crates below, passed on to those above
 pub use Rattle.break_schedule.specs.laws as laws
 pub use Rattle.break_schedule.specs.floats as floats

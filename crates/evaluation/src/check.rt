@@ -1,13 +1,13 @@
 // The route check: whether a route reaches every stop in time and keeps the limits. It is asked of every candidate place,
 // so its walk keeps time and distance only, and ends at the first stop that is missed.
 ghost use Rattle.std.specs.Prelude.{◌≡◌, ◌<◌};
-ghost use Rattle.break_schedule.specs.models.Customer.{customers};
-ghost use Rattle.break_schedule.specs.models.Problem.{matrix, Square, Fit, Stops};
+ghost use Rattle.break_schedule.specs.models.Problem.{Square, Stops};
 ghost use Rattle.evaluation.specs.Check.{set_out, departure, reach, reach_all, home_allowed, route_feasible};
 
 use crate::eval::{is_feasible, limited};
 use break_schedule::{
-    Customer, RouteLimits, TimeWindow, VehicleBreak, customer_at, get, schedule, travel_time,
+    Customer, DistanceMatrix, Network, RouteLimits, TimeWindow, VehicleBreak, customer_at, get,
+    schedule, travel_time,
 };
 
 // A route as far as it has been driven: the time its last stop is left, the distance so far, and that stop.
@@ -47,26 +47,13 @@ pub fn departure(arrival: f64, customer: Customer) -> Option<f64>
 
 // The drive to the next stop and the service there.
 #[tactic(auto, unfolding(crate::specs::Check::reach))]
-pub fn reach(
-    way: Way,
-    c: usize,
-    n: usize,
-    distances: &[f64],
-    times: &[f64],
-    service: &[f64],
-    ready: &[f64],
-    due: &[f64],
-    penalty: &[f64],
-    flags: &[u8],
-) -> Option<Way>
-    requires fit { Fit (customers service.now ready.now due.now penalty.now flags.now) (matrix n distances.now times.now) }
-    requires prev_lt_n { (way.prev < n) × (c < n) }
-    ensures { result ≡ reach (customers service.now ready.now due.now penalty.now flags.now)
-        (matrix n distances.now times.now) way c }
+pub fn reach(way: Way, c: usize, net: &Network) -> Option<Way>
+    requires { (way.prev < net.now.roads.size) × (c < net.now.roads.size) }
+    ensures { result ≡ reach net.now.places net.now.roads way c }
 {
-    let distance = way.distance + get(distances, n, way.prev, c);
-    let arrival = way.time + travel_time(distances, times, n, way.prev, c);
-    let customer = customer_at(c, service, ready, due, penalty, flags);
+    let distance = way.distance + get(&net.roads, way.prev, c);
+    let arrival = way.time + travel_time(&net.roads, way.prev, c);
+    let customer = customer_at(c, &net.places);
     let time = departure(arrival, customer)?;
     Some(Way {
         time,
@@ -77,100 +64,42 @@ pub fn reach(
 
 // The stops in order, as far as they are reached in time.
 #[tactic(auto, using(crate::proofs::CheckLaws::reaching_laws))]
-pub fn reach_all(
-    way: Way,
-    stops: &[u16],
-    n: usize,
-    distances: &[f64],
-    times: &[f64],
-    service: &[f64],
-    ready: &[f64],
-    due: &[f64],
-    penalty: &[f64],
-    flags: &[u8],
-) -> Option<Way>
-    requires fit { Fit (customers service.now ready.now due.now penalty.now flags.now) (matrix n distances.now times.now) }
-    requires prev_lt_n { (way.prev < n) × Stops n stops.now }
-    ensures { result ≡ reach_all (customers service.now ready.now due.now penalty.now flags.now)
-        (matrix n distances.now times.now) stops.now way }
+pub fn reach_all(way: Way, stops: &[u16], net: &Network) -> Option<Way>
+    requires { (way.prev < net.now.roads.size) × Stops net.now.roads.size stops.now }
+    ensures { result ≡ reach_all net.now.places net.now.roads stops.now way }
 {
     let mut at = way;
     for c in stops {
-        at = reach(
-            at,
-            *c as usize,
-            n,
-            distances,
-            times,
-            service,
-            ready,
-            due,
-            penalty,
-            flags,
-        )?;
+        at = reach(at, *c as usize, net)?;
     }
     Some(at)
 }
 
 // The return leg is added; then both limits are asked.
 #[tactic(auto, unfolding(crate::specs::Check::home_allowed))]
-pub fn home_allowed(
-    way: Way,
-    depot: usize,
-    limits: RouteLimits,
-    n: usize,
-    distances: &[f64],
-    times: &[f64],
-) -> bool
-    requires square { Square (matrix n distances.now times.now) }
-    requires prev_lt_n { (way.prev < n) × (depot < n) }
-    ensures { result ≡ home_allowed (matrix n distances.now times.now) depot limits way }
+pub fn home_allowed(way: Way, depot: usize, limits: RouteLimits, roads: &DistanceMatrix) -> bool
+    requires square { Square roads.now }
+    requires prev_lt_n { (way.prev < roads.now.size) × (depot < roads.now.size) }
+    ensures { result ≡ home_allowed roads.now depot limits way }
 {
-    let distance = way.distance + get(distances, n, way.prev, depot);
-    let duration = way.time + travel_time(distances, times, n, way.prev, depot);
+    let distance = way.distance + get(roads, way.prev, depot);
+    let duration = way.time + travel_time(roads, way.prev, depot);
     limits.allow(distance, duration)
 }
 
 // Whether the route depot, stops, depot passes.
 #[tactic(auto, unfolding(crate::specs::Check::route_feasible))]
-pub fn route_feasible(
-    route: &[u16],
-    depot: usize,
-    limits: RouteLimits,
-    n: usize,
-    distances: &[f64],
-    times: &[f64],
-    service: &[f64],
-    ready: &[f64],
-    due: &[f64],
-    penalty: &[f64],
-    flags: &[u8],
-) -> bool
-    requires fit { Fit (customers service.now ready.now due.now penalty.now flags.now) (matrix n distances.now times.now) }
-    requires depot_lt_n { (depot < n) × Stops n route.now }
-    ensures { result ≡ route_feasible (customers service.now ready.now due.now penalty.now flags.now)
-        (matrix n distances.now times.now) depot limits route.now }
+pub fn route_feasible(route: &[u16], depot: usize, limits: RouteLimits, net: &Network) -> bool
+    requires { (depot < net.now.roads.size) × Stops net.now.roads.size route.now }
+    ensures { result ≡ route_feasible net.now.places net.now.roads depot limits route.now }
 {
     let Some(rest) = limits.rest else {
-        let walked = reach_all(
-            Way::new(depot),
-            route,
-            n,
-            distances,
-            times,
-            service,
-            ready,
-            due,
-            penalty,
-            flags,
-        );
+        let walked = reach_all(Way::new(depot), route, net);
         let Some(way) = walked else {
             return false;
         };
-        return home_allowed(way, depot, limits, n, distances, times);
+        return home_allowed(way, depot, limits, &net.roads);
     };
-    let e = schedule(
-        route, depot, rest, n, distances, times, service, ready, due, penalty, flags,
-    );
+    let e = schedule(route, depot, rest, net);
     is_feasible(limited(e, limits))
 }

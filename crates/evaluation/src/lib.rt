@@ -4,10 +4,16 @@
 
 pub mod check;
 pub mod eval;
+pub mod fleet;
+pub mod instance;
+
+pub use fleet::Fleet;
+pub use instance::Instance;
 
 // Of the crates below, passed on to those above.
 pub use break_schedule::{
-    Customer, Label, Riding, RouteEval, RouteLimits, TimeWindow, Vehicle, VehicleBreak, abs,
-    customer_at, get, infinity, is_finite, largest, max, min, penalty_at, ride_all, ride_home,
-    scale, schedule as break_schedule_schedule, serve_at, total_less, travel_time, window_at,
+    Customer, Customers, DistanceMatrix, Label, Network, Problem, Riding, RouteEval, RouteLimits,
+    TimeWindow, Vehicle, VehicleBreak, abs, customer_at, get, infinity, is_finite, largest, max,
+    min, penalty_at, ride_all, ride_home, scale, schedule as break_schedule_schedule, serve_at,
+    total_less, travel_time, window_at,
 };

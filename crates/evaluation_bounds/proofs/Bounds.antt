@@ -4,14 +4,13 @@
 use Rattle.std.specs.Prelude.{Option, Some, None}
 use Prim.Native.Nat.{ℕ, suc, ◌+◌, ◌*◌, ◌<◌}
 use native.Mathlib.Omega.{arith}
-use mathlib.Core.Path.{◌≡◌, refl, subst}
-use mathlib.Core.Bool.{true, false, ◌||◌}
+use mathlib.Core.Path.{◌≡◌, refl, sym, subst, ◌∙◌}
+use mathlib.Core.Bool.{Bool, true, false, false≢true, ◌||◌}
 use mathlib.Core.List.{List}
-use mathlib.Core.Logic.{◌⊎◌, inl, inr}
 use lib.ListN.{length, get_or}
-use lib.Dec.{lit≤}
+use lib.Dec.{eqb, lit≤}
 use lib.Ieee.{Float, nan, lt, le, is_nan}
-use borrow.Author.Tests.{eq-eqb, ne_eqb}
+use borrow.Author.Tests.{eq-eqb}
 use Rattle.lateness_bound.specs.floats.Binary64.{◌⊕◌, max}
 use Rattle.lateness_bound.specs.floats.Order.{le_of_lt_true}
 use Rattle.lateness_bound.specs.floats.Upto.{Upto, upto_add, upto_sub, upto_mul, upto_more, upto_as, upto_zero, upto_max, upto_not_nan}
@@ -87,19 +86,17 @@ valid_amounts p v f =
     λ a b h k. valid_distances p v f (a * m.size + b) (rw s.distance_cells (in_matrix m.size a b h k)) in
     record {
       distance = far;
-      travel = λ a b h k. go a b s.time_cells (far a b h k) (λ e. valid_times p v f (a * m.size + b) (rw e (in_matrix m.size a b h k))) (in_matrix m.size a b h k);
+      travel = λ a b h k. go a b (eqb (length m.times) 0) refl (far a b h k)
+          (λ e. valid_times p v f (a * m.size + b) (rw (s.time_cells (λ z. false≢true (sym e ∙ eq-eqb (length m.times) 0 z))) (in_matrix m.size a b h k)));
       service = valid_service p v f;
       window = valid_window p v f;
       penalty = valid_penalty p v f;
     }
   where
-    go : (a b : ℕ) → (length p.roads.times ≡ 0) ⊎ (length p.roads.times ≡ p.roads.size * p.roads.size) → Amount (get p.roads a b)
-        → (length p.roads.times ≡ p.roads.size * p.roads.size → Amount (get_or p.roads.times (a * p.roads.size + b) nan))
-        → a * p.roads.size + b < p.roads.size * p.roads.size → Amount (travel_time p.roads a b)
-    go a b (inl e) d t i = rw (eq-eqb (length p.roads.times) 0 e) d
-    go a b (inr e) d t i =
-        let some : length p.roads.times ≡ 0 → ⊥ = λ z. omega arith in
-        rw (ne_eqb (length p.roads.times) 0 some) (t e)
+    go : (a b : ℕ) (t : Bool) → eqb (length p.roads.times) 0 ≡ t → Amount (get p.roads a b)
+        → (eqb (length p.roads.times) 0 ≡ false → Amount (get_or p.roads.times (a * p.roads.size + b) nan)) → Amount (travel_time p.roads a b)
+    go a b true e d t = rw e d
+    go a b false e d t = rw e (t e)
 
 module _ (cs : Customers) (m : DistanceMatrix) (a : Amounts cs m) where
   customer : (c : ℕ) → c < m.size → CustomerAmounts (customer_at cs c)

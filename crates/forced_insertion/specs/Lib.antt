@@ -2,6 +2,7 @@
 -- how a turn ends
 pub mod Turned
 -- crates below, passed on to those above
+pub use Rattle.cheapest_insertion.specs.evaluation as evaluation
 pub use Rattle.cheapest_insertion.specs.laws as laws
 pub use Rattle.cheapest_insertion.specs.models as models
 pub use Rattle.cheapest_insertion.specs.plan as plan

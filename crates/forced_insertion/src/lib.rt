@@ -3,9 +3,6 @@
 #![tactic(auto)]
 
 ghost use Rattle.std.specs.Prelude.{◌≡◌, ◌+◌, ◌<◌, ◌≤◌, length};
-ghost use Rattle.cheapest_insertion.specs.models.RouteLimits.{limits_of};
-ghost use Rattle.cheapest_insertion.specs.models.Problem.{problem, Admitted};
-ghost use Rattle.cheapest_insertion.specs.evaluation.Check.{route_checks_needed};
 ghost use Rattle.cheapest_insertion.specs.plan.Plan.{Holds, Lent, split, total};
 ghost use Rattle.cheapest_insertion.specs.local_search.Planned.{Planned};
 ghost use Rattle.cheapest_insertion.specs.insertion.Cheapest.{cheapest};
@@ -14,12 +11,13 @@ ghost use Rattle.made_room.specs.ejection_made.Made.{stack};
 ghost use Rattle.ejection_pool.specs.Pool.{after_eject};
 ghost use Rattle.ejection_pool.specs.Running.{Forcing, is_there, put_best, one_more};
 ghost use Rattle.forced_insertion.specs.Turned.{as_turn};
+ghost use Rattle.cheapest_insertion.specs.evaluation.Given.{of_instance};
 
 use cheapest_insertion::cheapest;
 use made_room::{eject, make_room, perturb};
 
 // Of the crates below, passed on to those above.
-pub use cheapest_insertion::{Counts, Vehicle};
+pub use cheapest_insertion::{Counts, Instance, Vehicle};
 
 // The stop c goes to its cheapest place, if it has one.
 pub fn place(
@@ -27,30 +25,15 @@ pub fn place(
     stops: &mut [u16],
     cells: &mut [f64],
     c: u16,
-    needed: bool,
-    vehicle: Vehicle,
-    demand: &[i32],
-    n: usize,
-    distances: &[f64],
-    times: &[f64],
-    service: &[f64],
-    ready: &[f64],
-    due: &[f64],
-    penalty: &[f64],
-    flags: &[u8],
+    given: &Instance,
 ) -> bool
-    requires admitted { Admitted (problem n demand.now service.now ready.now due.now penalty.now flags.now distances.now times.now vehicle) }
-    requires lent { Lent lengths.old stops.old × Planned n (split lengths.old stops.old) × (c < n) × (total lengths.old < length stops.old)
-        × (512 ≤ length cells.old) × (needed ≡ route_checks_needed flags.now (limits_of vehicle)) }
-    ensures found { result ≡ is_there (cheapest (problem n demand.now service.now ready.now due.now penalty.now flags.now
-        distances.now times.now vehicle) (split lengths.old stops.old) c) }
-    ensures plan { Holds (put_best c (cheapest (problem n demand.now service.now ready.now due.now penalty.now flags.now
-        distances.now times.now vehicle) (split lengths.old stops.old) c) (split lengths.old stops.old)) (total lengths.old + one_more result) lengths.new stops.new }
+    requires { Lent lengths.old stops.old × Planned given.now.fleet.net.roads.size (split lengths.old stops.old)
+        × (c < given.now.fleet.net.roads.size) × (total lengths.old < length stops.old) × (512 ≤ length cells.old) }
+    ensures found { result ≡ is_there (cheapest (of_instance given.now) (split lengths.old stops.old) c) }
+    ensures plan { Holds (put_best c (cheapest (of_instance given.now) (split lengths.old stops.old) c) (split lengths.old stops.old))
+        (total lengths.old + one_more result) lengths.new stops.new }
 {
-    let best = cheapest(
-        cells, lengths, stops, c as usize, needed, vehicle, demand, n, distances, times, service,
-        ready, due, penalty, flags,
-    );
+    let best = cheapest(cells, lengths, stops, c as usize, given);
     let Some(x) = best else {
         return false;
     };
@@ -71,31 +54,16 @@ pub fn force(
     count: usize,
     c: u16,
     counts: Counts,
-    needed: bool,
-    vehicle: Vehicle,
-    demand: &[i32],
-    n: usize,
-    distances: &[f64],
-    times: &[f64],
-    service: &[f64],
-    ready: &[f64],
-    due: &[f64],
-    penalty: &[f64],
-    flags: &[u8],
+    given: &Instance,
 ) -> Result<(usize, Counts), Counts>
-    requires { Forcing (problem n demand.now service.now ready.now due.now penalty.now flags.now distances.now times.now vehicle) tape.now needed
-        lengths.old stops.old pool.old work.old failures.now cells.old count c counts }
-    ensures plan { as_turn result (split lengths.new stops.new) pool.new failures.now
-        ≡ after_eject tape.now (problem n demand.now service.now ready.now due.now penalty.now flags.now
-        distances.now times.now vehicle) (split lengths.old stops.old) counts c (stack pool.old count) failures.now
-        (eject (problem n demand.now service.now ready.now due.now penalty.now flags.now
-        distances.now times.now vehicle) (split lengths.old stops.old) c failures.now) }
+    requires { Forcing (of_instance given.now) tape.now given.now.fleet.needed lengths.old stops.old pool.old work.old failures.now cells.old count c
+        counts }
+    ensures plan { as_turn result (split lengths.new stops.new) pool.new failures.now ≡ after_eject tape.now (of_instance given.now)
+        (split lengths.old stops.old) counts c (stack pool.old count) failures.now
+        (eject (of_instance given.now) (split lengths.old stops.old) c failures.now) }
     ensures held { Lent lengths.new stops.new }
 {
-    let found = eject(
-        work, cells, failures, lengths, stops, c as usize, needed, vehicle, demand, n, distances,
-        times, service, ready, due, penalty, flags,
-    );
+    let found = eject(work, cells, failures, lengths, stops, c as usize, given);
     let steps = counts.steps + 1;
     let Some(e) = found else {
         return Err(Counts {
@@ -104,23 +72,6 @@ pub fn force(
         });
     };
     let m = make_room(lengths, stops, pool, count, e, c);
-    let draws = perturb(
-        lengths,
-        stops,
-        work,
-        tape,
-        counts.draws,
-        needed,
-        vehicle,
-        demand,
-        n,
-        distances,
-        times,
-        service,
-        ready,
-        due,
-        penalty,
-        flags,
-    );
+    let draws = perturb(lengths, stops, work, tape, counts.draws, given);
     Ok((m, Counts { steps, draws }))
 }

@@ -8,7 +8,6 @@ use lib.Ieee.{Float}
 use Rattle.route_times.specs.models.Problem.{Problem, depot}
 use Rattle.route_times.specs.route_cost.declared.Insertion.{Insertion}
 use Rattle.route_times.specs.route_cost.Route.{insertion_cost}
-use Rattle.route_times.specs.LocalSearchReadLaws.{insertion_any}
 use Rattle.route_times.specs.quick_test.Quick.{Times}
 use Rattle.insertion.specs.Cheapest.{cheaper}
 use Rattle.insertion.specs.Pass.{may_pass, pass_position}
@@ -30,4 +29,4 @@ module _ (p : Problem) (c k : ℕ) (r : List ℕ) (t : Times) (pos : ℕ) (best 
     unfolding pass_position
     position_taken f = rw (← ex, ← ev, h, ← ew, f)
 
-pub ruleset position_laws = (insertion_any, position_dear, position_refused, position_taken)
+pub ruleset position_laws = (position_dear, position_refused, position_taken)

@@ -4,7 +4,7 @@ use Rattle.std.proofs.Common.{ap}
 use Rattle.std.specs.Prelude.{Option, Some}
 use Rattle.route_times.specs.laws.Edits.{insert_at}
 use Rattle.route_times.specs.models.declared.vehicle.Vehicle.{Vehicle}
-use Rattle.route_times.specs.models.Problem.{Problem, problem, depot}
+use Rattle.route_times.specs.models.Problem.{Problem, depot, problem_of}
 use Rattle.route_times.specs.route_cost.declared.Insertion.{Insertion}
 use Rattle.route_times.specs.route_cost.Route.{insertion_cost}
 use Rattle.route_times.specs.route_load.Feasible.{constrained, has_room, checked}
@@ -27,12 +27,12 @@ may_pass_room p r t pos c h =
     ap (λ (b : Bool). quick p r t pos c && b) (trial_within p pos c r (has_room p r c) refl (checked p (insert_at pos c r)) h refl)
 
 -- no demand is read
-pub may_pass_any : (n : ℕ) (demand : List ℤ) (service ready due penalty : List Float) (flags : List ℕ) (distances times : List Float) (vehicle : Vehicle)
+pub may_pass_any : (p : Problem)
     (r : List ℕ) (t : Times) (pos c : ℕ)
-    → may_pass (problem n [] service ready due penalty flags distances times vehicle) r t pos c
-    ≡ may_pass (problem n demand service ready due penalty flags distances times vehicle) r t pos c
+    → may_pass (problem_of [] p.places p.roads p.vehicle) r t pos c
+    ≡ may_pass p r t pos c
 unfolding may_pass
-may_pass_any n demand service ready due penalty flags distances times vehicle r t pos c = refl
+may_pass_any p r t pos c = refl
 
 -- where the check is not needed the times are not read
 pub may_go_in_untimed : (p : Problem) (r : List ℕ) (t u : Times) (pos c : ℕ) → constrained p ≡ false → may_go_in p r t pos c ≡ may_go_in p r u pos c

@@ -3,15 +3,15 @@ use Prim.Native.Nat.{ℕ, ◌-◌, ◌≤◌, ◌<◌}
 use native.Mathlib.Omega.{arith}
 use mathlib.Core.Path.{◌≡◌, refl}
 use mathlib.Core.Bool.{Bool, true, false, cond}
-use mathlib.Core.List.{List, []}
+use mathlib.Core.List.{List}
 use lib.ListN.{length, get_or}
 use lib.Dec.{eqb, ltb}
 use lib.Ieee.{Float}
 use borrow.Author.Rules.{rules}
 use borrow.Author.Tests.{eqb-false, ltb-true}
 use Rattle.local_search.specs.floats.Binary64.{◌⊕◌, ◌⊖◌}
-use Rattle.local_search.specs.models.Problem.{matrix, Stops}
-use Rattle.local_search.specs.distance.Matrix.{cell}
+use Rattle.local_search.specs.models.Problem.{DistanceMatrix, Stops}
+use Rattle.local_search.specs.distance.Matrix.{get}
 use Rattle.local_search.specs.route_cost.Route.{prev_stop, next_stop, insertion_cost}
 
 module _ (n depot : ℕ) (route : List ℕ) (pos v : ℕ) (h : depot < n) (s : Stops n route) where
@@ -29,11 +29,11 @@ module _ (n depot : ℕ) (route : List ℕ) (pos v : ℕ) (h : depot < n) (s : S
       go true q e = rw e (s.each pos (ltb-true pos (length route) q))
       go false q e = rw e h
 
-pub insertion_is : (n : ℕ) (distances : List Float) (depot : ℕ) (route : List ℕ) (pos c prev next : ℕ) (x y z : Float)
+pub insertion_is : (m : DistanceMatrix) (depot : ℕ) (route : List ℕ) (pos c prev next : ℕ) (x y z : Float)
     → prev ≡ prev_stop depot route pos → next ≡ next_stop depot route pos
-    → x ≡ cell distances n prev c → y ≡ cell distances n c next → z ≡ cell distances n prev next
-    → x ⊕ y ⊖ z ≡ insertion_cost (matrix n distances []) depot route pos c
+    → x ≡ get m prev c → y ≡ get m c next → z ≡ get m prev next
+    → x ⊕ y ⊖ z ≡ insertion_cost m depot route pos c
 unfolding insertion_cost
-insertion_is n distances depot route pos c prev next x y z ep en ex ey ez = rw (← ep, ← en, ex, ey, ez)
+insertion_is m depot route pos c prev next x y z ep en ex ey ez = rw (← ep, ← en, ex, ey, ez)
 
 pub ruleset ends_laws = (rules, prev_there, next_there)

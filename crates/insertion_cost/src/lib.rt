@@ -12,9 +12,10 @@ use local_search::get;
 pub use local_search::feasible::{checked, constrained, feasible, trial_ok};
 pub use local_search::rounds::{Counts, Next as LocalSearchNext, Reduction};
 pub use local_search::{
-    Customer, Insertion, Pick, TimeWindow, Vehicle, abs, copy_part, customer_at, cut, has_room,
-    infinity, insert_at, max, min, next_pick, offset, put_in, rounds, route_cost_gain_floor,
-    route_cost_route_distance, take_out, travel_time, within_capacity,
+    Customer, DistanceMatrix, Fleet, Insertion, Instance, Network, Pick, TimeWindow, Vehicle, abs,
+    copy_part, customer_at, cut, has_room, infinity, insert_at, max, min, next_pick, offset,
+    put_in, rounds, route_cost_gain_floor, route_cost_route_distance, take_out, travel_time,
+    within_capacity,
 };
 
 // The stop before position pos of a route, the depot before the first.
@@ -44,14 +45,13 @@ pub fn insertion_cost(
     pos: usize,
     c: usize,
     depot: usize,
-    n: usize,
-    distances: &[f64],
+    roads: &DistanceMatrix,
 ) -> f64
-    requires n_bound { (n ≤ 256) × (length distances.now ≡ n * n) }
-    requires depot_lt_n { (depot < n) × (c < n) × (pos ≤ length route.now) × Stops n route.now }
-    ensures { result ≡ insertion_cost (matrix n distances.now []) depot route.now pos c }
+    requires n_bound { (roads.now.size ≤ 256) × (length roads.now.distances ≡ roads.now.size * roads.now.size) }
+    requires depot_lt_n { (depot < roads.now.size) × (c < roads.now.size) × (pos ≤ length route.now) × Stops roads.now.size route.now }
+    ensures { result ≡ insertion_cost roads.now depot route.now pos c }
 {
     let prev = prev_stop(depot, route, pos);
     let next = next_stop(depot, route, pos);
-    get(distances, n, prev, c) + get(distances, n, c, next) - get(distances, n, prev, next)
+    get(roads, prev, c) + get(roads, c, next) - get(roads, prev, next)
 }

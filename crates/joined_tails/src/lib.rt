@@ -3,18 +3,17 @@
 #![tactic(auto)]
 
 ghost use Rattle.std.specs.Prelude.{◌≡◌, ◌-◌, ◌≤◌, length, take, drop};
-ghost use Rattle.stop_exchange.specs.models.RouteLimits.{limits_of};
-ghost use Rattle.stop_exchange.specs.models.Problem.{problem, of_demand, Admitted, Demands, Stops};
-ghost use Rattle.stop_exchange.specs.evaluation.Check.{route_checks_needed};
+ghost use Rattle.stop_exchange.specs.models.Problem.{of_demand, Demands, Stops};
 ghost use Rattle.stop_exchange.specs.plan.Plan.{Lent, HasPosition, split};
 ghost use Rattle.stop_exchange.specs.route_load.Feasible.{load, fits, feasible};
 ghost use Rattle.stop_exchange.specs.local_search.Planned.{Planned};
 ghost use Rattle.stop_exchange.specs.perturbation.Parts.{joined, joined_stands};
+ghost use Rattle.stop_exchange.specs.evaluation.Given.{of_instance};
 
 use stop_exchange::{copy_part, feasible, offset, within_capacity};
 
 // Of the crates below, passed on to those above.
-pub use stop_exchange::{Vehicle, draw, draw_bool, eject, other_than, try_exchange};
+pub use stop_exchange::{Instance, Vehicle, draw, draw_bool, eject, other_than, try_exchange};
 
 // The front of route a up to i goes to the first work cells, and behind it the tail of route b from j. Returns how many stops these are.
 fn join(
@@ -27,7 +26,8 @@ fn join(
     j: usize,
 ) -> usize
     requires lent { Lent lengths.now stops.now }
-    requires fact { (a ≡ b → ⊥) × HasPosition (split lengths.now stops.now) a i × HasPosition (split lengths.now stops.now) b j × (length stops.now ≤ length work.old) }
+    requires fact { (a ≡ b → ⊥) × HasPosition (split lengths.now stops.now) a i × HasPosition (split lengths.now stops.now) b j
+        × (length stops.now ≤ length work.old) }
     ensures count { result ≡ length (joined a i b j (split lengths.now stops.now)) }
     ensures cells { take result work.new ≡ joined a i b j (split lengths.now stops.now) }
 {
@@ -40,41 +40,11 @@ fn join(
 }
 
 // Whether the stops that stand from `at` to `end` are a feasible route.
-pub fn part_feasible(
-    stops: &[u16],
-    at: usize,
-    end: usize,
-    needed: bool,
-    vehicle: Vehicle,
-    demand: &[i32],
-    n: usize,
-    distances: &[f64],
-    times: &[f64],
-    service: &[f64],
-    ready: &[f64],
-    due: &[f64],
-    penalty: &[f64],
-    flags: &[u8],
-) -> bool
-    requires admitted { Admitted (problem n demand.now service.now ready.now due.now penalty.now flags.now distances.now times.now vehicle) }
-    requires at_le_end { (at ≤ end) × (end ≤ length stops.now) × Stops n (take (end - at) (drop at stops.now)) × (needed ≡ route_checks_needed flags.now (limits_of vehicle)) }
-    ensures { result ≡ feasible (problem n demand.now service.now ready.now due.now penalty.now flags.now
-        distances.now times.now vehicle) (take (end - at) (drop at stops.now)) }
+pub fn part_feasible(stops: &[u16], at: usize, end: usize, given: &Instance) -> bool
+    requires { (at ≤ end) × (end ≤ length stops.now) × Stops given.now.fleet.net.roads.size (take (end - at) (drop at stops.now)) }
+    ensures { result ≡ feasible (of_instance given.now) (take (end - at) (drop at stops.now)) }
 {
-    feasible(
-        &stops[at..end],
-        needed,
-        vehicle,
-        demand,
-        n,
-        distances,
-        times,
-        service,
-        ready,
-        due,
-        penalty,
-        flags,
-    )
+    feasible(&stops[at..end], given)
 }
 
 // Whether the front of route a up to i with the tail of route b from j behind it has stops and is feasible. It is put into the work cells.
@@ -86,31 +56,17 @@ pub fn joined_stands(
     i: usize,
     b: usize,
     j: usize,
-    needed: bool,
-    vehicle: Vehicle,
-    demand: &[i32],
-    n: usize,
-    distances: &[f64],
-    times: &[f64],
-    service: &[f64],
-    ready: &[f64],
-    due: &[f64],
-    penalty: &[f64],
-    flags: &[u8],
+    given: &Instance,
 ) -> bool
-    requires admitted { Admitted (problem n demand.now service.now ready.now due.now penalty.now flags.now distances.now times.now vehicle) }
-    requires fact { (a ≡ b → ⊥) × HasPosition (split lengths.now stops.now) a i × HasPosition (split lengths.now stops.now) b j × (length stops.now ≤ length work.old) × Lent lengths.now stops.now × Planned n (split lengths.now stops.now) × (needed ≡ route_checks_needed flags.now (limits_of vehicle)) }
-    ensures { result ≡ joined_stands (problem n demand.now service.now ready.now due.now penalty.now flags.now
-        distances.now times.now vehicle) a i b j (split lengths.now stops.now) }
+    requires { (a ≡ b → ⊥) × HasPosition (split lengths.now stops.now) a i × HasPosition (split lengths.now stops.now) b j
+        × (length stops.now ≤ length work.old) × Lent lengths.now stops.now × Planned given.now.fleet.net.roads.size (split lengths.now stops.now) }
+    ensures { result ≡ joined_stands (of_instance given.now) a i b j (split lengths.now stops.now) }
 {
     let m = join(work, lengths, stops, a, i, b, j);
     if m == 0 {
         return false;
     }
-    part_feasible(
-        work, 0, m, needed, vehicle, demand, n, distances, times, service, ready, due, penalty,
-        flags,
-    )
+    part_feasible(work, 0, m, given)
 }
 
 // Whether the load of the front of route a up to i with the tail of route b from j behind it is within capacity. It is put into the work cells.
@@ -126,7 +82,8 @@ pub fn joined_within(
     demand: &[i32],
 ) -> bool
     requires demands { Demands (length demand.now) demand.now }
-    requires fact { (a ≡ b → ⊥) × HasPosition (split lengths.now stops.now) a i × HasPosition (split lengths.now stops.now) b j × (length stops.now ≤ length work.old) × Lent lengths.now stops.now × Planned (length demand.now) (split lengths.now stops.now) }
+    requires fact { (a ≡ b → ⊥) × HasPosition (split lengths.now stops.now) a i × HasPosition (split lengths.now stops.now) b j
+        × (length stops.now ≤ length work.old) × Lent lengths.now stops.now × Planned (length demand.now) (split lengths.now stops.now) }
     ensures { result ≡ fits (of_demand demand.now vehicle) (load demand.now (joined a i b j (split lengths.now stops.now))) }
 {
     let m = join(work, lengths, stops, a, i, b, j);

@@ -6,8 +6,9 @@ ghost use Rattle.labels.specs.Labels.{serve_at, serve, served_from, sooner, earl
 
 // Of the crates below, passed on to those above.
 pub use distance::{
-    Customer, RouteLimits, TimeWindow, Vehicle, VehicleBreak, abs, customer_at, get, infinity,
-    is_finite, largest, max, min, penalty_at, scale, total_less, travel_time, window_at,
+    Customer, Customers, DistanceMatrix, Network, Problem, RouteLimits, TimeWindow, Vehicle,
+    VehicleBreak, abs, customer_at, get, infinity, is_finite, largest, max, min, penalty_at, scale,
+    total_less, travel_time, window_at,
 };
 
 // The vehicle at a stop with its service done. `rest` is the break, if taken: the index in the route of the stop that it comes before the service of, and its

@@ -14,7 +14,7 @@ use Rattle.route_worth.specs.floats.Binary64.{0f, max}
 use Rattle.route_worth.specs.laws.Loops.{loop, foldl, loop_more}
 use Rattle.route_worth.specs.models.declared.customer.TimeWindow.{TimeWindow}
 use Rattle.route_worth.specs.models.Customer.{window_at, penalty_at}
-use Rattle.route_worth.specs.models.Problem.{matrix, Square}
+use Rattle.route_worth.specs.models.Problem.{DistanceMatrix, Square}
 use Rattle.route_worth.specs.distance.Matrix.{largest}
 use Rattle.lateness_bound.specs.Bound.{with_window, with_penalty, later_window, dearer_penalty, latest_window, dearest_penalty, slowest}
 
@@ -89,14 +89,14 @@ module _ (l : List Float) where
   unfolding largest
   cells n e = rows n n (omega arith) ∙ ap (foldl max 0f) (ap (λ (i : ℕ). take i l) (sym e) ∙ take-length l)
 
-module _ (n : ℕ) (distances times : List Float) (v : Float) where
-  pub slowest_by_distance : Square (matrix n distances times) → length times ≡ 0 → v ≡ largest distances → v ≡ slowest (matrix n distances times)
+module _ (m : DistanceMatrix) (v : Float) where
+  pub slowest_by_distance : Square m → length m.times ≡ 0 → v ≡ largest m.distances → v ≡ slowest m
   unfolding slowest
-  slowest_by_distance s h ev = ev ∙ sym (rw (eq-eqb (length times) 0 h) (cells distances n s.distance_cells))
+  slowest_by_distance s h ev = ev ∙ sym (rw (eq-eqb (length m.times) 0 h) (cells m.distances m.size s.distance_cells))
 
-  pub slowest_by_time : Square (matrix n distances times) → (length times ≡ 0 → ⊥) → v ≡ largest times → v ≡ slowest (matrix n distances times)
+  pub slowest_by_time : Square m → (length m.times ≡ 0 → ⊥) → v ≡ largest m.times → v ≡ slowest m
   unfolding slowest
   slowest_by_time s h ev =
-      ev ∙ sym (rw (ne_eqb (length times) 0 h) (cells times n (⊎_elim (λ e. absurd (h e)) (λ e. e) s.time_cells)))
+      ev ∙ sym (rw (ne_eqb (length m.times) 0 h) (cells m.times m.size (s.time_cells h)))
 
 pub ruleset slowest_laws = (slowest_by_distance, slowest_by_time)

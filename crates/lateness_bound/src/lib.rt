@@ -3,7 +3,10 @@
 
 pub mod bound;
 
+use route_worth::{Customers, DistanceMatrix, Network};
+
 // Of the crates below, passed on to those above.
 pub use route_worth::{
-    Vehicle, effective_cost as route_worth_effective_cost, route_eval as route_worth_route_eval,
+    Problem, Vehicle, effective_cost as route_worth_effective_cost,
+    route_eval as route_worth_route_eval,
 };

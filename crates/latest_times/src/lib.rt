@@ -3,8 +3,7 @@
 #![tactic(auto)]
 
 ghost use Rattle.std.specs.Prelude.{◌≡◌, ◌<◌};
-ghost use Rattle.quick_fit.specs.models.Customer.{customers, customer_at};
-ghost use Rattle.quick_fit.specs.models.Problem.{matrix, Fit};
+ghost use Rattle.quick_fit.specs.models.Customer.{customer_at};
 ghost use Rattle.quick_fit.specs.quick_test.Quick.{earliest_start, latest_start, latest_arrival};
 ghost use Rattle.quick_fit.specs.quick_test.Parts.{latest_in};
 
@@ -12,9 +11,9 @@ use quick_fit::{TimeWindow, customer_at, min, travel_time};
 
 // Of the crates below, passed on to those above.
 pub use quick_fit::{
-    Counts, Insertion, LocalSearchNext, Pick, Reduction, Vehicle, checked, constrained, copy_part,
-    feasible, has_room, infinity, insertion_cost, leave, may_fit, next_pick, offset, put_in,
-    rounds, take_out, trial_ok, within_capacity,
+    Counts, DistanceMatrix, Fleet, Insertion, Instance, LocalSearchNext, Network, Pick, Reduction,
+    Vehicle, checked, constrained, copy_part, feasible, has_room, infinity, insertion_cost, leave,
+    may_fit, next_pick, offset, put_in, rounds, take_out, trial_ok, within_capacity,
 };
 
 // When service may start at the earliest, where there is a window.
@@ -45,26 +44,12 @@ fn latest_in(start_by: f64, window: Option<TimeWindow>) -> f64
 }
 
 // How late c may be reached where the next stop is to be reached by `by`.
-pub fn latest_arrival(
-    by: f64,
-    c: usize,
-    next: usize,
-    n: usize,
-    distances: &[f64],
-    times: &[f64],
-    service: &[f64],
-    ready: &[f64],
-    due: &[f64],
-    penalty: &[f64],
-    flags: &[u8],
-) -> f64
-    requires fit { Fit (customers service.now ready.now due.now penalty.now flags.now) (matrix n distances.now times.now) }
-    requires c_lt_n { (c < n) × (next < n) }
-    ensures { result ≡ latest_arrival (matrix n distances.now times.now)
-        (customer_at (customers service.now ready.now due.now penalty.now flags.now) c) c next by }
+pub fn latest_arrival(by: f64, c: usize, next: usize, net: &Network) -> f64
+    requires { (c < net.now.roads.size) × (next < net.now.roads.size) }
+    ensures { result ≡ latest_arrival net.now.roads (customer_at net.now.places c) c next by }
 {
-    let travel = travel_time(distances, times, n, c, next);
-    let customer = customer_at(c, service, ready, due, penalty, flags);
+    let travel = travel_time(&net.roads, c, next);
+    let customer = customer_at(c, &net.places);
     let start_by = by - travel - customer.service_duration;
     latest_in(start_by, customer.time_window)
 }

@@ -1,6 +1,4 @@
--- texts that are written piece by piece
+-- texts that are written one behind the other
 pub mod WriteLaws
--- for callers: the parts of a problem that a listing reads
-pub mod ReadLaws
 -- for callers: how long a listing can be
 pub mod BoundLaws

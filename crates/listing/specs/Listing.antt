@@ -21,10 +21,6 @@ whole x = to_unsigned 64 x
 pub record Prints (p : Problem) (route : List ℕ) : Type 0 where
   pub castable : T (in_unsigned binary64 64 (route_distance p.roads (depot p) route))
 
--- a problem of the parts that a listing reads (`listing_reads`)
-abbrev pub of_listing : ℕ → List ℤ → List Float → Vehicle → Problem
-of_listing n demand distances vehicle = problem n demand [] [] [] [] [] distances [] vehicle
-
 -- a stop behind a space
 unfoldable pub stop : ℕ → List ℕ
 stop c = text (bytes " " ∷ decimal c ∷ [])

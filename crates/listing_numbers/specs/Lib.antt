@@ -1,4 +1,5 @@
--- What the contracts of this crate cite.
+-- a text on a page
+pub mod Put
 -- crates below, passed on to those above
 pub use Rattle.listing.specs.laws as laws
 pub use Rattle.listing.specs.models as models

@@ -1,77 +1,65 @@
-// Words and numbers, written into lent bytes. Each function is given the position to write at and answers the position behind what it wrote; the rest
-// of the slice stays as it is.
+// The page that a listing is written on: lent bytes and the position behind what is written. The rest of the bytes stays as it is.
 #![tactic(auto)]
 
-ghost use Rattle.std.specs.Prelude.{◌≡◌, nat_abs};
-ghost use Rattle.listing.specs.Decimal.{digits, decimal, signed};
-ghost use Rattle.listing.specs.Written.{Room, Written};
+ghost use Rattle.std.specs.Prelude.{[], ◌∷◌};
+ghost use Rattle.listing.specs.Decimal.{text, decimal, signed};
+ghost use Rattle.listing_numbers.specs.Put.{HasRoom, Puts};
+
+use itoa::{Buffer, Integer};
 
 // Of the crates below, passed on to those above.
-pub use listing::{Counts, Vehicle, load, route_cost_route_distance};
+pub use listing::{Counts, Problem, Vehicle, load, route_cost_route_distance};
 
-// The bytes of a word.
-pub fn put_bytes(out: &mut [u8], at: usize, word: &[u8]) -> usize
-    requires { Room out.old at word.now }
-    ensures { Written out.old at word.now out.new result }
-{
-    let mut p = at;
-    let mut i: usize = 0;
-    while i < word.len() {
-        out[p] = word[i];
-        p += 1;
-        i += 1;
-    }
-    p
+// The bytes, and the position that is written at next.
+#[derive(Drop)]
+pub struct Page<'a> {
+    pub out: &'a mut [u8],
+    pub at: usize,
 }
 
-// The digits of n, of which there are at most `left`.
-fn put_digits(out: &mut [u8], at: usize, left: usize, n: u64) -> usize
-    requires { Room out.old at (digits left n) }
-    ensures { Written out.old at (digits left n) out.new result }
-{
-    if left == 0 {
-        return at;
+impl<'a> Page<'a> {
+    // The bytes of a word.
+    pub fn put_bytes(&mut self, word: &[u8])
+        requires { HasRoom self.old word.now }
+        ensures { Puts self.old word.now self.new }
+    {
+        let end = self.at + word.len();
+        self.out[self.at..end].copy_from_slice(word);
+        self.at = end;
     }
-    if n < 10 {
-        out[at] = 48 + n as u8;
-        return at + 1;
+
+    // A number as it prints.
+    fn put_number<I: Integer>(&mut self, n: I)
+        requires { HasRoom self.old (I.text n) }
+        ensures { Puts self.old (I.text n) self.new }
+    {
+        let mut buffer = Buffer::new();
+        let digits = buffer.format(n).as_bytes();
+        self.put_bytes(digits);
     }
-    let p = put_digits(out, at, left - 1, n / 10);
-    out[p] = 48 + (n % 10) as u8;
-    p + 1
-}
 
-// n in decimal.
-pub fn put_decimal(out: &mut [u8], at: usize, n: u64) -> usize
-    requires { Room out.old at (decimal n) }
-    ensures { Written out.old at (decimal n) out.new result }
-{
-    put_digits(out, at, 20, n)
-}
-
-// v without its sign.
-fn magnitude(v: i32) -> u64
-    ensures { result ≡ nat_abs v }
-{
-    let w = v as i64;
-    if w < 0 {
-        let m = 0 - w;
-        m as u64
-    } else {
-        w as u64
+    // n in decimal.
+    pub fn put_decimal(&mut self, n: u64)
+        requires { HasRoom self.old (decimal n) }
+        ensures { Puts self.old (decimal n) self.new }
+    {
+        self.put_number(n);
     }
-}
 
-// v in decimal, with its minus if it is negative.
-pub fn put_signed(out: &mut [u8], at: usize, v: i32) -> usize
-    requires { Room out.old at (signed v) }
-    ensures { Written out.old at (signed v) out.new result }
-{
-    let m = magnitude(v);
-    if v < 0 {
-        out[at] = 45;
-        put_decimal(out, at + 1, m)
-    } else {
-        put_decimal(out, at, m)
+    // v in decimal, with its minus if it is negative.
+    pub fn put_signed(&mut self, v: i32)
+        requires { HasRoom self.old (signed v) }
+        ensures { Puts self.old (signed v) self.new }
+    {
+        self.put_number(v);
+    }
+
+    // A number behind a word.
+    pub fn put_field(&mut self, word: &[u8], n: u64)
+        requires { HasRoom self.old (text (word.now ∷ decimal n ∷ [])) }
+        ensures { Puts self.old (text (word.now ∷ decimal n ∷ [])) self.new }
+    {
+        self.put_bytes(word);
+        self.put_decimal(n);
     }
 }

@@ -1,70 +1,47 @@
-// The lines of routes, numbered from 1, written into lent bytes.
+// The lines of routes, numbered from 1, put on a page.
 #![tactic(auto)]
 
 ghost use Rattle.std.specs.Prelude.{◌≡◌, ◌*◌, ◌<◌, ◌≤◌, length};
 ghost use Rattle.listing_lines.specs.laws.All.{All};
 ghost use Rattle.listing_lines.specs.models.Problem.{Stops, Demands};
 ghost use Rattle.listing_lines.specs.plan.Plan.{Lent, split};
-ghost use Rattle.listing_lines.specs.listing.Listing.{of_listing, Prints, line_of, route_lines};
-ghost use Rattle.listing_lines.specs.listing.Written.{Room, Written};
+ghost use Rattle.listing_lines.specs.listing.Listing.{Prints, line_of, route_lines};
+ghost use Rattle.listing_lines.specs.listing_numbers.Put.{HasRoom, Puts};
+ghost use Rattle.listing_lines.specs.models.Lent.{of_problem};
 
-use listing_lines::{Vehicle, load, put_route_line, route_cost_route_distance as route_distance};
+use listing_lines::{
+    Page, Problem, Vehicle, load, put_route_line, route_cost_route_distance as route_distance,
+};
 
 // The line of a route, with its load and its distance.
-fn put_route(
-    out: &mut [u8],
-    at: usize,
-    number: u64,
-    route: &[u16],
-    demand: &[i32],
-    n: usize,
-    distances: &[f64],
-    vehicle: Vehicle,
-) -> usize
-    requires room { Room out.old at (line_of (of_listing n demand.now distances.now vehicle) number route.now) }
-    requires n_bound { (n ≤ 256) × (length distances.now ≡ n * n) }
-    requires depot_id_bound { (vehicle.depot_id < n) × Demands n demand.now × Stops n route.now × Prints (of_listing n demand.now distances.now vehicle) route.now }
-    ensures { Written out.old at (line_of (of_listing n demand.now distances.now vehicle) number route.now) out.new result }
+fn put_route(page: &mut Page<'_>, number: u64, route: &[u16], problem: &Problem)
+    requires room { HasRoom page.old (line_of (of_problem problem.now) number route.now) }
+    requires n_bound { (problem.now.roads.now.size ≤ 256)
+        × (length problem.now.roads.now.distances ≡ problem.now.roads.now.size * problem.now.roads.now.size) }
+    requires depot_id_bound { (problem.now.vehicle.depot_id < problem.now.roads.now.size) × Demands problem.now.roads.now.size problem.now.demand.now
+        × Stops problem.now.roads.now.size route.now × Prints (of_problem problem.now) route.now }
+    ensures { Puts page.old (line_of (of_problem problem.now) number route.now) page.new }
 {
-    let sum = load(route, demand);
-    let distance = route_distance(route, vehicle.depot_id, n, distances);
-    put_route_line(out, at, number, sum, distance as u64, route)
+    let sum = load(route, problem.demand);
+    let distance = route_distance(route, problem.vehicle.depot_id, problem.roads);
+    put_route_line(page, number, sum, distance as u64, route);
 }
 
 // The lines of routes, numbered from 1.
-pub fn put_routes(
-    out: &mut [u8],
-    at: usize,
-    lengths: &[u16],
-    stops: &[u16],
-    demand: &[i32],
-    n: usize,
-    distances: &[f64],
-    vehicle: Vehicle,
-) -> usize
-    requires room { Room out.old at (route_lines (of_listing n demand.now distances.now vehicle) 1 (split lengths.now stops.now)) }
-    requires n_bound { (n ≤ 256) × (length distances.now ≡ n * n) }
-    requires depot_id_bound { (vehicle.depot_id < n) × Demands n demand.now × Lent lengths.now stops.now }
-    requires all { All (Stops n) (split lengths.now stops.now) × All (Prints (of_listing n demand.now distances.now vehicle)) (split lengths.now stops.now) }
-    ensures { Written out.old at (route_lines (of_listing n demand.now distances.now vehicle) 1 (split lengths.now stops.now)) out.new result }
+pub fn put_routes(page: &mut Page<'_>, lengths: &[u16], stops: &[u16], problem: &Problem)
+    requires room { HasRoom page.old (route_lines (of_problem problem.now) 1 (split lengths.now stops.now)) }
+    requires n_bound { (problem.now.roads.now.size ≤ 256)
+        × (length problem.now.roads.now.distances ≡ problem.now.roads.now.size * problem.now.roads.now.size) }
+    requires depot_id_bound { (problem.now.vehicle.depot_id < problem.now.roads.now.size) × Demands problem.now.roads.now.size problem.now.demand.now
+        × Lent lengths.now stops.now }
+    requires all { All (Stops problem.now.roads.now.size) (split lengths.now stops.now) × All (Prints (of_problem problem.now))
+        (split lengths.now stops.now) }
+    ensures { Puts page.old (route_lines (of_problem problem.now) 1 (split lengths.now stops.now)) page.new }
 {
-    let mut p = at;
     let mut from = 0;
-    let mut k = 0;
-    while k < lengths.len() {
-        let end = from + lengths[k] as usize;
-        p = put_route(
-            out,
-            p,
-            k as u64 + 1,
-            &stops[from..end],
-            demand,
-            n,
-            distances,
-            vehicle,
-        );
+    for (k, length) in lengths.iter().enumerate() {
+        let end = from + *length as usize;
+        put_route(page, k as u64 + 1, &stops[from..end], problem);
         from = end;
-        k += 1;
     }
-    p
 }

@@ -1,53 +1,49 @@
-// The first and the last line of a listing and the line of a refusal, written into lent bytes.
+// The first and the last line of a listing and the line of a refusal.
 #![tactic(auto)]
 
+ghost use Rattle.std.specs.Prelude.{[], ◌∷◌};
+ghost use Rattle.listing_numbers.specs.listing.Decimal.{text, decimal};
 ghost use Rattle.listing_numbers.specs.listing.Listing.{first_line, last_line, refusal_line};
 ghost use Rattle.listing_numbers.specs.listing.Written.{Room, Written};
-
-use listing_numbers::{put_bytes, put_decimal};
+ghost use Rattle.listing_numbers.specs.Put.{HasRoom, Puts};
 
 // Of the crates below, passed on to those above.
-pub use listing_numbers::{Counts, Vehicle};
+pub use listing_numbers::{Counts, Page, Problem, Vehicle};
+
+// A line of a word and a number.
+fn put_line(page: &mut Page<'_>, word: &[u8], n: u64)
+    requires { HasRoom page.old (text (word.now ∷ decimal n ∷ (10 ∷ []) ∷ [])) }
+    ensures { Puts page.old (text (word.now ∷ decimal n ∷ (10 ∷ []) ∷ [])) page.new }
+{
+    page.put_field(word, n);
+    page.put_bytes(b"\n");
+}
 
 // The first line of a listing.
-pub fn put_first_line(out: &mut [u8], at: usize, routes: u64) -> usize
-    requires { Room out.old at (first_line routes) }
-    ensures { Written out.old at (first_line routes) out.new result }
+pub fn put_first_line(page: &mut Page<'_>, routes: u64)
+    requires { HasRoom page.old (first_line routes) }
+    ensures { Puts page.old (first_line routes) page.new }
 {
-    let a = put_bytes(out, at, b"routes ");
-    let b = put_decimal(out, a, routes);
-    put_bytes(out, b, b"\n")
+    put_line(page, b"routes ", routes);
 }
 
 // The last line of a listing.
-pub fn put_last_line(
-    out: &mut [u8],
-    at: usize,
-    steps: u64,
-    draws: u64,
-    given: u64,
-    left: u64,
-) -> usize
-    requires { Room out.old at (last_line steps draws given left) }
-    ensures { Written out.old at (last_line steps draws given left) out.new result }
+pub fn put_last_line(page: &mut Page<'_>, counts: Counts, given: u64, left: u64)
+    requires { HasRoom page.old (last_line counts.steps counts.draws given left) }
+    ensures { Puts page.old (last_line counts.steps counts.draws given left) page.new }
 {
-    let a = put_bytes(out, at, b"steps ");
-    let b = put_decimal(out, a, steps);
-    let c = put_bytes(out, b, b" draws ");
-    let d = put_decimal(out, c, draws);
-    let e = put_bytes(out, d, b" given ");
-    let f = put_decimal(out, e, given);
-    let g = put_bytes(out, f, b" left ");
-    let h = put_decimal(out, g, left);
-    put_bytes(out, h, b"\n")
+    page.put_field(b"steps ", counts.steps);
+    page.put_field(b" draws ", counts.draws);
+    page.put_field(b" given ", given);
+    put_line(page, b" left ", left);
 }
 
-// The line of a refusal.
+// The line of a refusal, from a position of a slice on: the position behind it.
 pub fn put_refusal(out: &mut [u8], at: usize, number: u64) -> usize
     requires { Room out.old at (refusal_line number) }
     ensures { Written out.old at (refusal_line number) out.new result }
 {
-    let a = put_bytes(out, at, b"refused ");
-    let b = put_decimal(out, a, number);
-    put_bytes(out, b, b"\n")
+    let mut page = Page { out, at };
+    put_line(&mut page, b"refused ", number);
+    page.at
 }

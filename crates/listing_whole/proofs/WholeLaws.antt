@@ -1,6 +1,6 @@
--- A listing as a whole, as it is written: the first line, the lines of the routes, the last line. Assumes nothing.
+-- A listing as a whole, as it is put on a page: the first line, the lines of the routes, the last line. Assumes nothing.
 use Prim.Native.Nat.{ℕ, zero, suc, ◌≤◌}
-use mathlib.Core.Path.{◌≡◌, refl, ap}
+use mathlib.Core.Path.{◌≡◌, refl, ap, sym}
 use mathlib.Core.List.{List, [], ◌∷◌}
 use native.Mathlib.Omega.{arith}
 use lib.ListN.{length, take, drop}
@@ -12,8 +12,9 @@ use Rattle.listing_totals.specs.plan.Slices.{length_split, offset_within}
 use Rattle.listing_totals.specs.local_search.declared.rounds.Counts.{Counts}
 use Rattle.listing_totals.specs.listing.Decimal.{text}
 use Rattle.listing_totals.specs.listing.Listing.{route_lines, first_line, last_line, listing}
-use Rattle.listing_totals.specs.listing.Written.{Room, Written}
-use Rattle.listing_totals.specs.ListingWriteLaws.{room_first, room_more, text_more, text_last}
+use Rattle.listing_totals.specs.listing_numbers.Put.{HasRoom, Puts}
+use Rattle.listing_totals.specs.listing_numbers.declared.Page.{Page}
+use Rattle.listing_totals.specs.ListingNumbersPageLaws.{room_as, puts_as, room_first, room_more, puts_more, puts_last}
 
 split_take : (ls s : List ℕ) (k : ℕ) → split (take k ls) s ≡ take k (split ls s)
 unfolding split
@@ -38,25 +39,25 @@ module _ (lengths stops : List ℕ) (routes : ℕ) where
     unfolding listing
     listing_is = rw (taken_length, split_take lengths stops routes)
 
-    module _ (l : List ℕ) where
-      module _ (r : Room l 0 (listing p (take routes (split lengths stops)) counts given)) where
-        pub first_room : Room l 0 (first_line routes)
-        first_room = room_first l 0 _ _ (rw listing_is at r)
+    module _ {first : Page} where
+      module _ (r : HasRoom first (listing p (take routes (split lengths stops)) counts given)) where
+        whole_room : HasRoom first (text (first_line routes ∷ route_lines p 1 (split (take routes lengths) stops) ∷ last_line counts.steps counts.draws given routes ∷ []))
+        whole_room = room_as (sym listing_is) r
 
-        module _ (m : List ℕ) (a : ℕ) (w : Written l 0 (first_line routes) m a) where
-          pub routes_room : Room m a (route_lines p 1 (split (take routes lengths) stops))
-          routes_room = room_first m a _ _ (room_more l 0 _ m a _ w (rw listing_is at r))
+        pub first_room : HasRoom first (first_line routes)
+        first_room = room_first _ _ whole_room
 
-          pub last_room
-              : (o : List ℕ) (b : ℕ)
-              → Written m a (route_lines p 1 (split (take routes lengths) stops)) o b
-              → Room o b (last_line counts.steps counts.draws given routes)
-          last_room o b x = room_first o b _ _ (room_more m a _ o b _ x (room_more l 0 _ m a _ w (rw listing_is at r)))
+        module _ {next : Page} (w : Puts first (first_line routes) next) where
+          pub routes_room : HasRoom next (route_lines p 1 (split (take routes lengths) stops))
+          routes_room = room_first _ _ (room_more _ _ w whole_room)
 
-      pub listing_written
-          : (m : List ℕ) (a : ℕ) (o : List ℕ) (b : ℕ) (q : List ℕ) (e : ℕ)
-          → Written l 0 (first_line routes) m a
-          → Written m a (route_lines p 1 (split (take routes lengths) stops)) o b
-          → Written o b (last_line counts.steps counts.draws given routes) q e
-          → Written l 0 (listing p (take routes (split lengths stops)) counts given) q e
-      listing_written m a o b q e x y z = rw listing_is (text_more _ _ _ _ _ _ _ _ x (text_more _ _ _ _ _ _ _ _ y (text_last _ _ _ _ _ z)))
+          pub last_room : {then : Page} → Puts next (route_lines p 1 (split (take routes lengths) stops)) then → HasRoom then (last_line counts.steps counts.draws given routes)
+          last_room x = room_first _ _ (room_more _ _ x (room_more _ _ w whole_room))
+
+      pub listing_put
+          : {next then last : Page}
+          → Puts first (first_line routes) next
+          → Puts next (route_lines p 1 (split (take routes lengths) stops)) then
+          → Puts then (last_line counts.steps counts.draws given routes) last
+          → Puts first (listing p (take routes (split lengths stops)) counts given) last
+      listing_put x y z = puts_as (sym listing_is) (puts_more _ _ x (puts_more _ _ y (puts_last _ z)))

@@ -5,11 +5,12 @@ ghost use Rattle.std.specs.Prelude.{◌≡◌, ◌*◌, ◌<◌, ◌≤◌, leng
 ghost use Rattle.listing_totals.specs.laws.All.{All};
 ghost use Rattle.listing_totals.specs.models.Problem.{Stops, Demands};
 ghost use Rattle.listing_totals.specs.plan.Plan.{Lent, split};
-ghost use Rattle.listing_totals.specs.listing.Listing.{of_listing, Prints, listing};
+ghost use Rattle.listing_totals.specs.listing.Listing.{Prints, listing};
 ghost use Rattle.listing_totals.specs.listing.Written.{Room, Written};
+ghost use Rattle.listing_totals.specs.models.Lent.{of_problem};
 
 use listing_routes::put_routes;
-use listing_totals::{Counts, Vehicle, put_first_line, put_last_line};
+use listing_totals::{Counts, Page, Problem, Vehicle, put_first_line, put_last_line};
 
 // Of the crates below, passed on to those above.
 pub use listing_totals::put_refusal;
@@ -22,27 +23,20 @@ pub fn put_listing(
     routes: usize,
     counts: Counts,
     given: u64,
-    demand: &[i32],
-    n: usize,
-    distances: &[f64],
-    vehicle: Vehicle,
+    problem: &Problem,
 ) -> usize
-    requires room { Room out.old 0 (listing (of_listing n demand.now distances.now vehicle) (take routes (split lengths.now stops.now)) counts given) }
-    requires n_bound { (n ≤ 256) × (length distances.now ≡ n * n) }
-    requires depot_id_bound { (vehicle.depot_id < n) × Demands n demand.now × Lent lengths.now stops.now × (routes ≤ length lengths.now) }
-    requires all { All (Stops n) (take routes (split lengths.now stops.now)) × All (Prints (of_listing n demand.now distances.now vehicle)) (take routes (split lengths.now stops.now)) }
-    ensures { Written out.old 0 (listing (of_listing n demand.now distances.now vehicle) (take routes (split lengths.now stops.now)) counts given) out.new result }
+    requires room { Room out.old 0 (listing (of_problem problem.now) (take routes (split lengths.now stops.now)) counts given) }
+    requires n_bound { (problem.now.roads.now.size ≤ 256)
+        × (length problem.now.roads.now.distances ≡ problem.now.roads.now.size * problem.now.roads.now.size) }
+    requires depot_id_bound { (problem.now.vehicle.depot_id < problem.now.roads.now.size) × Demands problem.now.roads.now.size problem.now.demand.now
+        × Lent lengths.now stops.now × (routes ≤ length lengths.now) }
+    requires all { All (Stops problem.now.roads.now.size) (take routes (split lengths.now stops.now)) × All (Prints (of_problem problem.now))
+        (take routes (split lengths.now stops.now)) }
+    ensures { Written out.old 0 (listing (of_problem problem.now) (take routes (split lengths.now stops.now)) counts given) out.new result }
 {
-    let a = put_first_line(out, 0, routes as u64);
-    let b = put_routes(
-        out,
-        a,
-        &lengths[..routes],
-        stops,
-        demand,
-        n,
-        distances,
-        vehicle,
-    );
-    put_last_line(out, b, counts.steps, counts.draws, given, routes as u64)
+    let mut page = Page { out, at: 0 };
+    put_first_line(&mut page, routes as u64);
+    put_routes(&mut page, &lengths[..routes], stops, problem);
+    put_last_line(&mut page, counts, given, routes as u64);
+    page.at
 }

@@ -5,7 +5,7 @@ use mathlib.Core.List.{List}
 use Rattle.std.proofs.Common.{Option, Some, Result, Ok, Err}
 use lib.ListN.{length, take}
 use lib.Ieee.{Float}
-use Rattle.minimization.specs.models.Problem.{Problem, of_distances}
+use Rattle.minimization.specs.models.Problem.{Problem, of_roads}
 use Rattle.minimization.specs.route_order.declared.Pick.{Pick}
 use Rattle.minimization.specs.plan.Plan.{split, total, padded, drop_zero}
 use Rattle.minimization.specs.route_order.Order.{next_pick, following}
@@ -29,7 +29,7 @@ module _ (ls L : List ℕ) (k : ℕ) (e : L ≡ padded (length ls) (drop_zero ls
   pub begun_cost : x ≡ cost p (split (take k L) s) → x ≡ cost p (split (drop_zero ls) s)
   begun_cost f = f ∙ ap (λ (l : List ℕ). cost p (split l s)) (in_use ls L k e c)
 
-  pub round_cost : x ≡ cost (of_distances p.roads.size p.roads.distances p.vehicle) (split (drop_zero ls) s) → x ≡ cost p (split (take k L) s)
+  pub round_cost : x ≡ cost (of_roads p.roads p.vehicle) (split (drop_zero ls) s) → x ≡ cost p (split (take k L) s)
   round_cost f = f ∙ cost_whole p (split (drop_zero ls) s) ∙ ap (λ (l : List ℕ). cost p (split l s)) (sym (in_use ls L k e c))
 
 -- ---- the next attempt

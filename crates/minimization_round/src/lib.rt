@@ -3,7 +3,7 @@
 #![tactic(auto)]
 
 ghost use Rattle.std.specs.Prelude.{◌≡◌, ◌*◌, ◌<◌, ◌≤◌, length, take};
-ghost use Rattle.minimization.specs.models.Problem.{problem, of_distances};
+ghost use Rattle.minimization.specs.models.Problem.{of_roads};
 ghost use Rattle.minimization.specs.plan.Plan.{Lent, split, padded, drop_zero};
 ghost use Rattle.minimization.specs.route_order.Order.{following};
 ghost use Rattle.minimization.specs.local_search.Planned.{Planned};
@@ -13,13 +13,15 @@ ghost use Rattle.minimization.specs.local_search.Search.{but_last, tried_next, N
 ghost use Rattle.minimization.specs.pool_cost.Attempt.{attempt};
 ghost use Rattle.minimization.specs.ejection_pool.Running.{allowance};
 ghost use Rattle.route_attempt.specs.route_without.Attempting.{Attempting};
+ghost use Rattle.minimization.specs.evaluation.Given.{of_instance};
 
 use minimization::{LocalSearchNext as Next, next_pick, plan_cost};
 use route_attempt::{attempt, drop_empty};
 
 // Of the crates below, passed on to those above.
 pub use minimization::{
-    Counts, LocalSearchNext, Pick, Reduction, Vehicle, constrained, has_soft_windows, rounds,
+    Counts, Customers, DistanceMatrix, Instance, LocalSearchNext, Pick, Problem, Reduction,
+    Vehicle, constrained, has_soft_windows, rounds,
 };
 
 // What a round starts with: how many routes there are, and what they cost.
@@ -35,32 +37,26 @@ fn cost_of(
     stops: &[u16],
     count: usize,
     vehicle: Vehicle,
-    n: usize,
-    distances: &[f64],
+    roads: &DistanceMatrix,
 ) -> f64
-    requires n_bound { (n ≤ 256) × (length distances.now ≡ n * n) × (vehicle.depot_id < n) }
-    requires count_in_bounds { (count ≤ length lengths.now) × Lent (take count lengths.now) stops.now × Planned n (split (take count lengths.now) stops.now) }
-    ensures { result ≡ cost (of_distances n distances.now vehicle) (split (take count lengths.now) stops.now) }
+    requires n_bound { (roads.now.size ≤ 256) × (length roads.now.distances ≡ roads.now.size * roads.now.size) × (vehicle.depot_id < roads.now.size) }
+    requires count_in_bounds { (count ≤ length lengths.now) × Lent (take count lengths.now) stops.now × Planned roads.now.size
+        (split (take count lengths.now) stops.now) }
+    ensures { result ≡ cost (of_roads roads.now vehicle) (split (take count lengths.now) stops.now) }
 {
-    plan_cost(&lengths[..count], stops, vehicle, n, distances)
+    plan_cost(&lengths[..count], stops, vehicle, roads)
 }
 
 // Empty routes are dropped, and the others are counted and their cost summed.
-pub fn begin(
-    lengths: &mut [u16],
-    stops: &[u16],
-    vehicle: Vehicle,
-    n: usize,
-    distances: &[f64],
-) -> Round
-    requires n_bound { (n ≤ 256) × (length distances.now ≡ n * n) × (vehicle.depot_id < n) }
-    requires lent { Lent lengths.old stops.now × Planned n (split lengths.old stops.now) }
+pub fn begin(lengths: &mut [u16], stops: &[u16], vehicle: Vehicle, roads: &DistanceMatrix) -> Round
+    requires n_bound { (roads.now.size ≤ 256) × (length roads.now.distances ≡ roads.now.size * roads.now.size) × (vehicle.depot_id < roads.now.size) }
+    requires lent { Lent lengths.old stops.now × Planned roads.now.size (split lengths.old stops.now) }
     ensures rest { lengths.new ≡ padded (length lengths.old) (drop_zero lengths.old) }
     ensures count { result.count ≡ length (drop_zero lengths.old) }
-    ensures cost { result.before ≡ cost (of_distances n distances.now vehicle) (split (drop_zero lengths.old) stops.now) }
+    ensures cost { result.before ≡ cost (of_roads roads.now vehicle) (split (drop_zero lengths.old) stops.now) }
 {
     let count = drop_empty(lengths);
-    let before = cost_of(lengths, stops, count, vehicle, n, distances);
+    let before = cost_of(lengths, stops, count, vehicle, roads);
     Round { count, before }
 }
 
@@ -76,34 +72,21 @@ pub fn try_next(
     limit: usize,
     clock: u64,
     counted: Counts,
-    needed: bool,
-    vehicle: Vehicle,
-    demand: &[i32],
-    n: usize,
-    distances: &[f64],
-    times: &[f64],
-    service: &[f64],
-    ready: &[f64],
-    due: &[f64],
-    penalty: &[f64],
-    flags: &[u8],
+    given: &Instance,
 ) -> Next
-    requires attempting { Attempting (problem n demand.now service.now ready.now due.now penalty.now flags.now distances.now times.now vehicle) tape.now needed limit
-        lengths.old stops.old work.old cells.old counted }
-    requires before_value { (before ≡ cost (problem n demand.now service.now ready.now due.now penalty.now flags.now distances.now times.now vehicle) (split lengths.old stops.old)) × (length lengths.old ≤ 256) × (767 ≤ length work.old) × (counted.draws ≤ 500 * counted.steps) }
-    ensures round { tried_next (attempt (allowance limit clock tape.now) (problem n demand.now service.now ready.now due.now penalty.now flags.now
-        distances.now times.now vehicle)) (split lengths.old stops.old) lengths.old counted
-        result (split (but_last lengths.new) stops.new) ≡ try_each (attempt (allowance limit clock tape.now) (problem n demand.now service.now ready.now due.now penalty.now flags.now
-        distances.now times.now vehicle))
+    requires attempting { Attempting (of_instance given.now) tape.now given.now.fleet.needed limit lengths.old stops.old work.old cells.old counted }
+    requires before_value { (before ≡ cost (of_instance given.now) (split lengths.old stops.old)) × (length lengths.old ≤ 256)
+        × (767 ≤ length work.old) × (counted.draws ≤ 500 * counted.steps) }
+    ensures round { tried_next (attempt (allowance limit clock tape.now) (of_instance given.now)) (split lengths.old stops.old) lengths.old counted
+        result (split (but_last lengths.new) stops.new) ≡ try_each (attempt (allowance limit clock tape.now) (of_instance given.now))
         (split lengths.old stops.old) (following lengths.old last) counted }
-    ensures held { NextLeaves limit n lengths.old stops.old last counted result lengths.new stops.new }
+    ensures held { NextLeaves limit given.now.fleet.net.roads.size lengths.old stops.old last counted result lengths.new stops.new }
 {
     let Some(pick) = next_pick(lengths, last) else {
         return Next::End;
     };
     let tried = attempt(
-        lengths, stops, work, cells, tape, pick.route, before, limit, clock, counted, needed,
-        vehicle, demand, n, distances, times, service, ready, due, penalty, flags,
+        lengths, stops, work, cells, tape, pick.route, before, limit, clock, counted, given,
     );
     match tried {
         Err(counts) => Next::Kept(pick, counts),

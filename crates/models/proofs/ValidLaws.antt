@@ -109,9 +109,9 @@ module _ (p : Problem) (row_1 : sizes_pass p ≡ true) where
       }
     where
       go : (b c : Bool) → (b ≡ true → length p.roads.times ≡ 0) → (c ≡ true → length p.roads.times ≡ p.roads.size * p.roads.size)
-          → (b ≡ true) ⊎ (c ≡ true) → (length p.roads.times ≡ 0) ⊎ (length p.roads.times ≡ p.roads.size * p.roads.size)
-      go b c f g (inl e) = inl (f e)
-      go b c f g (inr e) = inr (g e)
+          → (b ≡ true) ⊎ (c ≡ true) → (length p.roads.times ≡ 0 → ⊥) → length p.roads.times ≡ p.roads.size * p.roads.size
+      go b c f g (inl e) h = absurd (h (f e))
+      go b c f g (inr e) h = g e
 
 module _ (p : Problem) (v : valid p ≡ true) where
   row_1 : sizes_pass p ≡ true

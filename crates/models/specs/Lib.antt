@@ -9,6 +9,8 @@ pub mod Vehicle
 pub mod RouteLimits
 -- a problem as a whole
 pub mod Problem
+-- the problem that the code is lent
+pub mod Lent
 -- what makes a problem valid: rows 1 to 4 of the refusal table
 pub mod Valid
 -- crates below, passed on to those above

@@ -1,5 +1,5 @@
 -- A problem as a whole: what every call is given besides its own plan or route ("The problem and the entry checks"). Assumes nothing.
-use Rattle.std.specs.Prelude.{ℕ, ◌*◌, ◌≤◌, ◌<◌, ◌≡◌, ◌⊎◌, List, [], length, get_or, ℤ, pos, nat_abs, Float}
+use Rattle.std.specs.Prelude.{ℕ, ◌*◌, ◌≤◌, ◌<◌, ◌≡◌, List, [], length, get_or, ℤ, pos, nat_abs, Float}
 use Rattle.models.specs.declared.vehicle.Vehicle.{Vehicle}
 use Rattle.models.specs.Customer.{Customers, customers, Sized}
 
@@ -19,14 +19,20 @@ pub record Problem : Type 0 where
   pub roads : DistanceMatrix
   pub vehicle : Vehicle
 
+abbrev pub problem_of : List ℤ → Customers → DistanceMatrix → Vehicle → Problem
+problem_of demand places roads vehicle = record { demand = demand; places = places; roads = roads; vehicle = vehicle }
+
 -- the problem of the slices as they are lent
 abbrev pub problem : ℕ → List ℤ → List Float → List Float → List Float → List Float → List ℕ → List Float → List Float → Vehicle → Problem
 problem n demand service ready due penalty flags distances times vehicle =
-    record { demand = demand; places = customers service ready due penalty flags; roads = matrix n distances times; vehicle = vehicle }
+    problem_of demand (customers service ready due penalty flags) (matrix n distances times) vehicle
 
 -- a problem of some parts, for what reads no other
 abbrev pub of_demand : List ℤ → Vehicle → Problem
 of_demand demand vehicle = problem 0 demand [] [] [] [] [] [] [] vehicle
+
+abbrev pub of_roads : DistanceMatrix → Vehicle → Problem
+of_roads roads vehicle = problem_of [] (customers [] [] [] [] []) roads vehicle
 
 abbrev pub of_distances : ℕ → List Float → Vehicle → Problem
 of_distances n distances vehicle = problem n [] [] [] [] [] [] distances [] vehicle
@@ -41,7 +47,7 @@ depot p = p.vehicle.depot_id
 pub record Square (m : DistanceMatrix) : Type 0 where
   pub few : m.size ≤ 256
   pub distance_cells : length m.distances ≡ m.size * m.size
-  pub time_cells : (length m.times ≡ 0) ⊎ (length m.times ≡ m.size * m.size)
+  pub time_cells : (length m.times ≡ 0 → ⊥) → length m.times ≡ m.size * m.size
 
 -- slices of the right lengths, for the evaluation of a route
 pub record Fit (cs : Customers) (m : DistanceMatrix) : Type 0 where

@@ -3,7 +3,11 @@
 #![tactic(auto)]
 
 pub mod customer;
+pub mod customers;
 pub mod limits;
+pub mod matrix;
+pub mod network;
+pub mod problem;
 pub mod vehicle;
 
 // Of the crates below, passed on to those above.

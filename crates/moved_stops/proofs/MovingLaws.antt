@@ -26,13 +26,12 @@ module _ (p : Problem) (soft needed : Bool) (ls s left : List ℕ) (m : ℕ) (g 
   largest_inside = least_inside (larger p.demand) 0 (take m left) (omega (arith, length-take-le m left g.there))
 
   pub next_asked : (c : ℕ) (added saved : Float) → c ≡ get_or (take m left) (first_largest p.demand (take m left)) 0
-      → Asked p (record { c = c; added = added; saved = saved; soft = soft; needed = needed })
+      → Asked p (record { c = c; added = added; saved = saved; soft = soft })
   next_asked c added saved e =
       record {
         admitted = g.admitted;
         there = rw e (g.places.each (first_largest p.demand (take m left)) largest_inside);
         soft_told = g.soft_told;
-        needed_told = g.needed_told;
       }
 
   pub next_room : Room p.roads.size ls s

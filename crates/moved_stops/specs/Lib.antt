@@ -1,5 +1,6 @@
 -- What the contracts of this crate cite.
 -- crates below, passed on to those above
+pub use Rattle.stop_moves.specs.evaluation as evaluation
 pub use Rattle.stop_moves.specs.floats as floats
 pub use Rattle.stop_moves.specs.models as models
 pub use Rattle.stop_moves.specs.route_order as route_order

@@ -3,18 +3,18 @@
 
 ghost use Rattle.std.specs.Prelude.{◌≡◌, ◌+◌, ◌-◌, ◌<◌, get_or, take};
 ghost use Rattle.stop_moves.specs.laws.Edits.{erase};
-ghost use Rattle.stop_moves.specs.models.Problem.{problem};
 ghost use Rattle.stop_moves.specs.plan.Plan.{split, total};
 ghost use Rattle.stop_moves.specs.elimination_moves.Eliminate.{move_stop, move_all};
 ghost use Rattle.stop_moves.specs.elimination_moves.Largest.{first_largest, in_order};
 ghost use Rattle.stop_moves.specs.Moves.{so_far, held_by, Waiting, Kept};
+ghost use Rattle.stop_moves.specs.evaluation.Given.{of_instance};
 
 use stop_moves::{Move, move_stop, take_largest};
 
 // Of the crates below, passed on to those above.
 pub use stop_moves::{
-    Counts, LocalSearchNext, Pick, Reduction, Vehicle, constrained, has_soft_windows, is_finite,
-    next_pick, route_cost_gain_floor, worth,
+    Counts, Instance, LocalSearchNext, Pick, Problem, Reduction, Vehicle, constrained,
+    has_soft_windows, is_finite, next_pick, route_cost_gain_floor, worth,
 };
 
 // The first stop with the largest demand of the m that are left goes to its place.
@@ -26,37 +26,22 @@ fn move_next(
     added: f64,
     saved: f64,
     soft: bool,
-    needed: bool,
-    vehicle: Vehicle,
-    demand: &[i32],
-    n: usize,
-    distances: &[f64],
-    times: &[f64],
-    service: &[f64],
-    ready: &[f64],
-    due: &[f64],
-    penalty: &[f64],
-    flags: &[u8],
+    given: &Instance,
 ) -> Option<f64>
-    requires { Waiting (problem n demand.now service.now ready.now due.now penalty.now flags.now distances.now times.now vehicle) soft needed lengths.old stops.old left.old m × (0 < m) }
-    ensures moved { held_by result (split lengths.new stops.new) ≡ move_stop (problem n demand.now service.now ready.now due.now penalty.now flags.now
-        distances.now times.now vehicle) saved (so_far (split lengths.old stops.old) added)
-        (get_or (take m left.old) (first_largest demand.now (take m left.old)) 0) }
-    ensures kept { Kept n result (total lengths.old + 1) lengths.new stops.new }
-    ensures rest { take (m - 1) left.new ≡ erase (first_largest demand.now (take m left.old)) (take m left.old) }
+    requires { Waiting (of_instance given.now) soft given.now.fleet.needed lengths.old stops.old left.old m × (0 < m) }
+    ensures moved { held_by result (split lengths.new stops.new) ≡ move_stop (of_instance given.now) saved
+        (so_far (split lengths.old stops.old) added) (get_or (take m left.old) (first_largest given.now.demand.now (take m left.old)) 0) }
+    ensures kept { Kept given.now.fleet.net.roads.size result (total lengths.old + 1) lengths.new stops.new }
+    ensures rest { take (m - 1) left.new ≡ erase (first_largest given.now.demand.now (take m left.old)) (take m left.old) }
 {
-    let c = take_largest(left, m, demand) as usize;
+    let c = take_largest(left, m, given.demand) as usize;
     let stop = Move {
         c,
         added,
         saved,
         soft,
-        needed,
     };
-    move_stop(
-        lengths, stops, stop, vehicle, demand, n, distances, times, service, ready, due, penalty,
-        flags,
-    )
+    move_stop(lengths, stops, stop, given)
 }
 
 // The `count` stops that are left go to their places, the largest demand first, until one has none.
@@ -67,31 +52,17 @@ pub fn move_all(
     count: usize,
     saved: f64,
     soft: bool,
-    needed: bool,
-    vehicle: Vehicle,
-    demand: &[i32],
-    n: usize,
-    distances: &[f64],
-    times: &[f64],
-    service: &[f64],
-    ready: &[f64],
-    due: &[f64],
-    penalty: &[f64],
-    flags: &[u8],
+    given: &Instance,
 ) -> Option<f64>
-    requires { Waiting (problem n demand.now service.now ready.now due.now penalty.now flags.now distances.now times.now vehicle) soft needed lengths.old stops.old left.old count }
-    ensures moved { held_by result (split lengths.new stops.new) ≡ move_all (problem n demand.now service.now ready.now due.now penalty.now flags.now
-        distances.now times.now vehicle) saved
-        (in_order demand.now count (take count left.old)) (split lengths.old stops.old) }
-    ensures kept { Kept n result (total lengths.old + count) lengths.new stops.new }
+    requires { Waiting (of_instance given.now) soft given.now.fleet.needed lengths.old stops.old left.old count }
+    ensures moved { held_by result (split lengths.new stops.new) ≡ move_all (of_instance given.now) saved
+        (in_order given.now.demand.now count (take count left.old)) (split lengths.old stops.old) }
+    ensures kept { Kept given.now.fleet.net.roads.size result (total lengths.old + count) lengths.new stops.new }
 {
     let mut added = 0.0;
     let mut m = count;
     while m > 0 {
-        let sum = move_next(
-            lengths, stops, left, m, added, saved, soft, needed, vehicle, demand, n, distances,
-            times, service, ready, due, penalty, flags,
-        )?;
+        let sum = move_next(lengths, stops, left, m, added, saved, soft, given)?;
         added = sum;
         m -= 1;
     }

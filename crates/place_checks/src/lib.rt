@@ -1,9 +1,8 @@
 // Rows 2 and 3 of the refusal table in code, place by place: windows, penalties, demands, flags. A value whose flag is clear is not read.
 #![tactic(auto)]
 
-ghost use Rattle.std.specs.Prelude.{◌≡◌, [], ◌<◌, length};
+ghost use Rattle.std.specs.Prelude.{◌≡◌, ◌<◌, length};
 ghost use Rattle.problem_checks.specs.laws.Searches.{every};
-ghost use Rattle.problem_checks.specs.models.Customer.{customers};
 ghost use Rattle.problem_checks.specs.models.Valid.{window_passes, penalty_passes, demand_passes, place_passes, window_ordered};
 
 use problem_checks::amounts::is_amount;
@@ -11,21 +10,25 @@ use problem_checks::amounts::is_amount;
 // Of the crates below, passed on to those above.
 pub use problem_checks::amounts::{amounts_pass, break_passes, vehicle_passes};
 pub use problem_checks::sizes::sizes_pass;
-pub use problem_checks::{RouteLimits, TimeWindow, Vehicle, VehicleBreak};
+pub use problem_checks::{
+    Customers, DistanceMatrix, Problem, RouteLimits, TimeWindow, Vehicle, VehicleBreak,
+};
 
 // Whether the window of place c, if it has one, is of two amounts.
-fn window_passes(c: usize, ready: &[f64], due: &[f64], flags: &[u8]) -> bool
-    requires { (c < length ready.now) × (c < length due.now) × (c < length flags.now) }
-    ensures { result ≡ window_passes (customers [] ready.now due.now [] flags.now) c }
+fn window_passes(c: usize, places: &Customers) -> bool
+    requires { (c < length places.now.ready) × (c < length places.now.due) × (c < length places.now.flags) }
+    ensures { result ≡ window_passes places.now c }
 {
+    let (flags, ready, due) = (places.flags, places.ready, places.due);
     flags[c] % 2 != 1 || is_amount(ready[c]) && is_amount(due[c])
 }
 
 // Whether the penalty of place c, if it has one, is an amount.
-fn penalty_passes(c: usize, penalty: &[f64], flags: &[u8]) -> bool
-    requires { (c < length penalty.now) × (c < length flags.now) }
-    ensures { result ≡ penalty_passes (customers [] [] [] penalty.now flags.now) c }
+fn penalty_passes(c: usize, places: &Customers) -> bool
+    requires { (c < length places.now.penalty) × (c < length places.now.flags) }
+    ensures { result ≡ penalty_passes places.now c }
 {
+    let (flags, penalty) = (places.flags, places.penalty);
     flags[c] / 2 % 2 != 1 || is_amount(penalty[c])
 }
 
@@ -37,36 +40,26 @@ fn demand_passes(d: i32) -> bool
 }
 
 // Whether row 2 lets place c pass, its service aside.
-fn place_passes(
-    c: usize,
-    demand: &[i32],
-    ready: &[f64],
-    due: &[f64],
-    penalty: &[f64],
-    flags: &[u8],
-) -> bool
-    requires { (c < length demand.now) × (c < length ready.now) × (c < length due.now) × (c < length penalty.now) × (c < length flags.now) }
-    ensures { result ≡ place_passes demand.now (customers [] ready.now due.now penalty.now flags.now) c }
+fn place_passes(c: usize, demand: &[i32], places: &Customers) -> bool
+    requires { (c < length demand.now) × (c < length places.now.ready) × (c < length places.now.due) × (c < length places.now.penalty)
+        × (c < length places.now.flags) }
+    ensures { result ≡ place_passes demand.now places.now c }
 {
+    let flags = places.flags;
     flags[c] <= 3
-        && window_passes(c, ready, due, flags)
-        && penalty_passes(c, penalty, flags)
+        && window_passes(c, places)
+        && penalty_passes(c, places)
         && demand_passes(demand[c])
 }
 
 // Whether row 2 lets every place pass, its service aside.
-pub fn places_pass(
-    demand: &[i32],
-    ready: &[f64],
-    due: &[f64],
-    penalty: &[f64],
-    flags: &[u8],
-) -> bool
-    requires { (length ready.now ≡ length demand.now) × (length due.now ≡ length demand.now) × (length penalty.now ≡ length demand.now) × (length flags.now ≡ length demand.now) }
-    ensures { result ≡ every (place_passes demand.now (customers [] ready.now due.now penalty.now flags.now)) (length demand.now) 0 }
+pub fn places_pass(demand: &[i32], places: &Customers) -> bool
+    requires { (length places.now.ready ≡ length demand.now) × (length places.now.due ≡ length demand.now)
+        × (length places.now.penalty ≡ length demand.now) × (length places.now.flags ≡ length demand.now) }
+    ensures { result ≡ every (place_passes demand.now places.now) (length demand.now) 0 }
 {
     for c in 0..demand.len() {
-        if !place_passes(c, demand, ready, due, penalty, flags) {
+        if !place_passes(c, demand, places) {
             return false;
         }
     }
@@ -74,20 +67,21 @@ pub fn places_pass(
 }
 
 // Whether the window of place c, if it has one, does not close before it opens.
-fn window_ordered(c: usize, ready: &[f64], due: &[f64], flags: &[u8]) -> bool
-    requires { (c < length ready.now) × (c < length due.now) × (c < length flags.now) }
-    ensures { result ≡ window_ordered (customers [] ready.now due.now [] flags.now) c }
+fn window_ordered(c: usize, places: &Customers) -> bool
+    requires { (c < length places.now.ready) × (c < length places.now.due) × (c < length places.now.flags) }
+    ensures { result ≡ window_ordered places.now c }
 {
+    let (flags, ready, due) = (places.flags, places.ready, places.due);
     flags[c] % 2 != 1 || !(ready[c] > due[c])
 }
 
 // Whether row 3 lets every place pass.
-pub fn windows_pass(ready: &[f64], due: &[f64], flags: &[u8]) -> bool
-    requires { (length ready.now ≡ length flags.now) × (length due.now ≡ length flags.now) }
-    ensures { result ≡ every (window_ordered (customers [] ready.now due.now [] flags.now)) (length flags.now) 0 }
+pub fn windows_pass(places: &Customers) -> bool
+    requires { (length places.now.ready ≡ length places.now.flags) × (length places.now.due ≡ length places.now.flags) }
+    ensures { result ≡ every (window_ordered places.now) (length places.now.flags) 0 }
 {
-    for c in 0..flags.len() {
-        if !window_ordered(c, ready, due, flags) {
+    for c in 0..places.len() {
+        if !window_ordered(c, places) {
             return false;
         }
     }

@@ -1,20 +1,25 @@
-// One place read from the problem's slices: its window and its penalty by its flags, and the record that the evaluation reads.
+// One place read from the places' slices: its window and its penalty by its flags, and the record that the evaluation reads.
 #![tactic(auto)]
 
 ghost use Rattle.std.specs.Prelude.{◌≡◌, ◌<◌, length};
-ghost use Rattle.models.specs.Customer.{customers, Sized, window_at, penalty_at, customer_at};
+ghost use Rattle.models.specs.Customer.{Sized, window_at, penalty_at, customer_at};
 
 // Of the crates below, passed on to those above.
 pub use models::customer::{Customer, TimeWindow};
+pub use models::customers::Customers;
 pub use models::limits::RouteLimits;
+pub use models::matrix::DistanceMatrix;
+pub use models::network::Network;
+pub use models::problem::Problem;
 pub use models::vehicle::{Vehicle, VehicleBreak};
 pub use models::{abs, infinity, is_finite, max, min, total_less};
 
 // The window of place `c`: bit 0 of its flags says whether it has one. A value whose flag is clear is not read.
-pub fn window_at(c: usize, ready: &[f64], due: &[f64], flags: &[u8]) -> Option<TimeWindow>
-    requires { (c < length ready.now) × (c < length due.now) × (c < length flags.now) }
-    ensures { result ≡ window_at ready.now due.now flags.now c }
+pub fn window_at(c: usize, places: &Customers) -> Option<TimeWindow>
+    requires { (c < length places.now.ready) × (c < length places.now.due) × (c < length places.now.flags) }
+    ensures { result ≡ window_at places.now.ready places.now.due places.now.flags c }
 {
+    let (flags, ready, due) = (places.flags, places.ready, places.due);
     if flags[c] % 2 == 1 {
         Some(TimeWindow {
             ready: ready[c],
@@ -26,10 +31,11 @@ pub fn window_at(c: usize, ready: &[f64], due: &[f64], flags: &[u8]) -> Option<T
 }
 
 // The penalty of place `c`: bit 1 of its flags says whether it has one.
-pub fn penalty_at(c: usize, penalty: &[f64], flags: &[u8]) -> Option<f64>
-    requires { (c < length penalty.now) × (c < length flags.now) }
-    ensures { result ≡ penalty_at penalty.now flags.now c }
+pub fn penalty_at(c: usize, places: &Customers) -> Option<f64>
+    requires { (c < length places.now.penalty) × (c < length places.now.flags) }
+    ensures { result ≡ penalty_at places.now.penalty places.now.flags c }
 {
+    let (flags, penalty) = (places.flags, places.penalty);
     if flags[c] / 2 % 2 == 1 {
         Some(penalty[c])
     } else {
@@ -37,22 +43,16 @@ pub fn penalty_at(c: usize, penalty: &[f64], flags: &[u8]) -> Option<f64>
     }
 }
 
-// Place `c` of the slices, as one value.
-pub fn customer_at(
-    c: usize,
-    service: &[f64],
-    ready: &[f64],
-    due: &[f64],
-    penalty: &[f64],
-    flags: &[u8],
-) -> Customer
-    requires sized { Sized (customers service.now ready.now due.now penalty.now flags.now) (length service.now) }
-    requires c_in_bounds { c < length service.now }
-    ensures { result ≡ customer_at (customers service.now ready.now due.now penalty.now flags.now) c }
+// Place `c` as one value.
+pub fn customer_at(c: usize, places: &Customers) -> Customer
+    requires sized { Sized places.now (length places.now.service) }
+    requires c_in_bounds { c < length places.now.service }
+    ensures { result ≡ customer_at places.now c }
 {
+    let service = places.service;
     Customer {
         service_duration: service[c],
-        time_window: window_at(c, ready, due, flags),
-        lateness_penalty: penalty_at(c, penalty, flags),
+        time_window: window_at(c, places),
+        lateness_penalty: penalty_at(c, places),
     }
 }

@@ -3,6 +3,8 @@
 #![tactic(auto)]
 
 // Of the crates below, passed on to those above.
-pub use entry::Refusal;
-pub use lateness_bound::{Vehicle, bound, route_worth_effective_cost, route_worth_route_eval};
+pub use entry::{Refusal, instance};
+pub use lateness_bound::{
+    Problem, Vehicle, bound, route_worth_effective_cost, route_worth_route_eval,
+};
 pub use minimization::{Reduction, copy_part};

@@ -15,7 +15,6 @@ use Rattle.refusals.specs.ModelsValidLaws.{valid_fit, valid_depot}
 use Rattle.refusals.specs.break_clock.Schedule.{schedule}
 use Rattle.refusals.specs.evaluation.Check.{route_feasible}
 use Rattle.refusals.specs.route_cost.Route.{route_distance}
-use Rattle.refusals.specs.LocalSearchReadLaws.{distance_any}
 use Rattle.refusals.specs.entry.Table.{refusal}
 use Rattle.refusals.specs.entry.Given.{route_inputs, schedule_inputs}
 use Rattle.refusals.specs.EntryAdmittedLaws.{route_accepted, schedule_accepted}
@@ -59,9 +58,9 @@ module _ (p : Problem) (route : List ℕ) where
     unfolding public_route_feasible
     feasible_answered l x g f = answers _ x _ e (f ∙ ap (λ (k : RouteLimits). route_feasible p.places p.roads (depot p) k route) g)
 
-    pub distance_answered : (x : Float) → x ≡ route_distance (matrix p.roads.size p.roads.distances []) (depot p) route → answered x ≡ public_route_distance p route
+    pub distance_answered : (x : Float) → x ≡ route_distance p.roads (depot p) route → answered x ≡ public_route_distance p route
     unfolding public_route_distance
-    distance_answered x f = answers _ x _ e (distance_any p.roads.size p.roads.distances p.roads.times (depot p) route x f)
+    distance_answered x f = answers _ x _ e f
 
   -- ---- with a break beside it
   module _ (b : VehicleBreak) where

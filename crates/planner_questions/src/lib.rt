@@ -3,7 +3,7 @@
 #![tactic(auto)]
 
 ghost use Rattle.std.specs.Prelude.{◌≡◌};
-ghost use Rattle.refusals.specs.models.Problem.{problem};
+ghost use Rattle.refusals.specs.models.Lent.{of_problem};
 ghost use Rattle.planner.specs.Calls.{public_route_feasible, public_schedule, public_route_distance};
 ghost use Rattle.planner.specs.Told.{told};
 
@@ -14,66 +14,34 @@ use refusals::evaluation_check as check;
 pub use planner::{Reduction, Refusal, bound, route_worth_effective_cost, route_worth_route_eval};
 pub use refusals::calls::{problem_refusal, route_refusal};
 pub use refusals::{
-    RouteEval, RouteLimits, TimeWindow, Vehicle, VehicleBreak, route_cost_gain_floor,
+    Customers, DistanceMatrix, Problem, RouteEval, RouteLimits, TimeWindow, Vehicle, VehicleBreak,
+    route_cost_gain_floor,
 };
 
 // Whether a route passes the check.
-pub fn route_feasible(
-    route: &[u16],
-    n: usize,
-    demand: &[i32],
-    service: &[f64],
-    ready: &[f64],
-    due: &[f64],
-    penalty: &[f64],
-    flags: &[u8],
-    distances: &[f64],
-    times: &[f64],
-    vehicle: Vehicle,
-) -> Result<bool, Refusal>
-    ensures { told result ≡ public_route_feasible (problem n demand.now service.now ready.now due.now penalty.now flags.now
-        distances.now times.now vehicle) route.now }
+pub fn route_feasible(route: &[u16], problem: &Problem) -> Result<bool, Refusal>
+    ensures { told result ≡ public_route_feasible (of_problem problem.now) route.now }
 {
-    route_refusal(
-        route, n, demand, service, ready, due, penalty, flags, distances, times, vehicle,
-    )?; // a refused one is not checked
+    route_refusal(route, problem)?; // a refused one is not checked
     let passes = check::route_feasible(
         route,
-        vehicle.depot_id,
-        RouteLimits::of(vehicle),
-        n,
-        distances,
-        times,
-        service,
-        ready,
-        due,
-        penalty,
-        flags,
+        problem.vehicle.depot_id,
+        RouteLimits::of(problem.vehicle),
+        &problem.network(),
     );
     Ok(passes)
 }
 
 // The distance of a route.
-pub fn route_distance(
-    route: &[u16],
-    n: usize,
-    demand: &[i32],
-    service: &[f64],
-    ready: &[f64],
-    due: &[f64],
-    penalty: &[f64],
-    flags: &[u8],
-    distances: &[f64],
-    times: &[f64],
-    vehicle: Vehicle,
-) -> Result<f64, Refusal>
-    ensures { told result ≡ public_route_distance (problem n demand.now service.now ready.now due.now penalty.now flags.now
-        distances.now times.now vehicle) route.now }
+pub fn route_distance(route: &[u16], problem: &Problem) -> Result<f64, Refusal>
+    ensures { told result ≡ public_route_distance (of_problem problem.now) route.now }
 {
-    route_refusal(
-        route, n, demand, service, ready, due, penalty, flags, distances, times, vehicle,
-    )?; // a refused one is not measured
-    let distance = refusals::route_cost_route_distance(route, vehicle.depot_id, n, distances);
+    route_refusal(route, problem)?; // a refused one is not measured
+    let distance = refusals::route_cost_route_distance(
+        route,
+        problem.vehicle.depot_id,
+        problem.roads,
+    );
     Ok(distance)
 }
 
@@ -81,35 +49,16 @@ pub fn route_distance(
 pub fn schedule(
     route: &[u16],
     rest: VehicleBreak,
-    n: usize,
-    demand: &[i32],
-    service: &[f64],
-    ready: &[f64],
-    due: &[f64],
-    penalty: &[f64],
-    flags: &[u8],
-    distances: &[f64],
-    times: &[f64],
-    vehicle: Vehicle,
+    problem: &Problem,
 ) -> Result<Option<RouteEval>, Refusal>
-    ensures { told result ≡ public_schedule (problem n demand.now service.now ready.now due.now penalty.now flags.now
-        distances.now times.now vehicle) rest route.now }
+    ensures { told result ≡ public_schedule (of_problem problem.now) rest route.now }
 {
-    schedule_refusal(
-        route, rest, n, demand, service, ready, due, penalty, flags, distances, times, vehicle,
-    )?; // a refused one is not scheduled
+    schedule_refusal(route, rest, problem)?; // a refused one is not scheduled
     let timed = refusals::break_schedule_schedule(
         route,
-        vehicle.depot_id,
+        problem.vehicle.depot_id,
         rest,
-        n,
-        distances,
-        times,
-        service,
-        ready,
-        due,
-        penalty,
-        flags,
+        &problem.network(),
     );
     Ok(timed)
 }

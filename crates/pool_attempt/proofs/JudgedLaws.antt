@@ -9,7 +9,7 @@ use lib.ListN.{length}
 use lib.Ieee.{Float, lt}
 use Rattle.pool_cost.specs.floats.Binary64.{◌⊖◌, ◌⊗◌, 1e-12, abs}
 use Rattle.pool_cost.specs.laws.All.{All}
-use Rattle.pool_cost.specs.models.Problem.{Problem, of_distances, Stops}
+use Rattle.pool_cost.specs.models.Problem.{Problem, of_roads, Stops}
 use Rattle.pool_cost.specs.plan.Plan.{Plan}
 use Rattle.pool_cost.specs.local_search.declared.rounds.Counts.{Counts}
 use Rattle.pool_cost.specs.local_search.Options.{Each, each_found, bind, then_some}
@@ -66,7 +66,7 @@ module _ (p : Problem) (before : Float) (t : Tried) (plan : Plan) (counts : Coun
   unfolding bind
   judged_failed f = ap (λ (y : Result Counts Counts). judged p before (said y plan)) (sym f) ∙ ap (judged p before) e
 
-  module _ (f : x ≡ Ok counts) (v : Bool) (c : v ≡ lt (cost (of_distances p.roads.size p.roads.distances p.vehicle) plan) (before ⊖ 1e-12 ⊗ abs before)) where
+  module _ (f : x ≡ Ok counts) (v : Bool) (c : v ≡ lt (cost (of_roads p.roads p.vehicle) plan) (before ⊖ 1e-12 ⊗ abs before)) where
     emptied : judged p before (said (Ok counts) plan) ≡ judged p before t
     emptied = ap (λ (y : Result Counts Counts). judged p before (said y plan)) (sym f) ∙ ap (judged p before) e
 

@@ -3,17 +3,17 @@
 #![tactic(auto)]
 
 ghost use Rattle.std.specs.Prelude.{◌≡◌, replicate};
-ghost use Rattle.pool_cost.specs.models.Problem.{problem};
 ghost use Rattle.pool_cost.specs.plan.Plan.{Lent, split};
 ghost use Rattle.pool_cost.specs.ejection_pool.Pool.{run_pool};
 ghost use Rattle.pool_cost.specs.ejection_pool.Running.{Running, state, allowance};
 ghost use Rattle.pool_attempt.specs.Judged.{tried, judged};
+ghost use Rattle.pool_cost.specs.evaluation.Given.{of_instance};
 
 use pool_cost::is_cheaper;
 use pool_emptying::empty_pool;
 
 // Of the crates below, passed on to those above.
-pub use pool_cost::{Counts, Vehicle};
+pub use pool_cost::{Counts, Instance, Vehicle};
 
 // The pool is emptied into the routes, and the plan that is left is compared with `before`. An error is a plan that is kept as it was.
 // Either comes with the counts of the call so far.
@@ -29,32 +29,25 @@ pub fn try_rest(
     limit: usize,
     clock: u64,
     counted: Counts,
-    needed: bool,
-    vehicle: Vehicle,
-    demand: &[i32],
-    n: usize,
-    distances: &[f64],
-    times: &[f64],
-    service: &[f64],
-    ready: &[f64],
-    due: &[f64],
-    penalty: &[f64],
-    flags: &[u8],
+    given: &Instance,
 ) -> Result<Counts, Counts>
-    requires { Running (problem n demand.now service.now ready.now due.now penalty.now flags.now distances.now times.now vehicle) tape.now needed limit
-        lengths.old stops.old pool.old work.old (replicate n 1) cells.old start counted }
-    ensures plan { tried result (split lengths.new stops.new) ≡ judged (problem n demand.now service.now ready.now due.now penalty.now flags.now
-        distances.now times.now vehicle) before
-        (run_pool (allowance limit clock tape.now) (problem n demand.now service.now ready.now due.now penalty.now flags.now
-        distances.now times.now vehicle) limit
-        (state lengths.old stops.old pool.old start (replicate n 1) counted)) }
+    requires { Running (of_instance given.now) tape.now given.now.fleet.needed limit lengths.old stops.old pool.old work.old
+        (replicate given.now.fleet.net.roads.size 1) cells.old start counted }
+    ensures plan { tried result (split lengths.new stops.new) ≡ judged (of_instance given.now) before
+        (run_pool (allowance limit clock tape.now) (of_instance given.now) limit
+        (state lengths.old stops.old pool.old start (replicate given.now.fleet.net.roads.size 1) counted)) }
     ensures held { Lent lengths.new stops.new }
 {
     let counts = empty_pool(
-        lengths, stops, pool, work, cells, tape, start, limit, clock, counted, needed, vehicle,
-        demand, n, distances, times, service, ready, due, penalty, flags,
+        lengths, stops, pool, work, cells, tape, start, limit, clock, counted, given,
     )?;
-    if is_cheaper(lengths, stops, before, vehicle, n, distances) {
+    if is_cheaper(
+        lengths,
+        stops,
+        before,
+        given.fleet.vehicle,
+        &given.fleet.net.roads,
+    ) {
         Ok(counts)
     } else {
         Err(counts)

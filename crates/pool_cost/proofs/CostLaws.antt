@@ -3,7 +3,7 @@ use mathlib.Core.Path.{◌≡◌, refl, ap, ◌∙◌}
 use mathlib.Core.Bool.{Bool}
 use lib.Ieee.{Float, lt}
 use Rattle.plan_cost.specs.floats.Binary64.{◌⊖◌, ◌⊗◌, 1e-12, abs}
-use Rattle.plan_cost.specs.models.Problem.{Problem, of_distances}
+use Rattle.plan_cost.specs.models.Problem.{Problem, of_roads}
 use Rattle.plan_cost.specs.plan.Plan.{Plan}
 use Rattle.ejection_pool.specs.local_search.Options.{then_some}
 use Rattle.plan_cost.specs.route_cost.Route.{cost}
@@ -13,15 +13,13 @@ use Rattle.pool_cost.specs.Attempt.{if_cheaper}
 pub cheaper_is : (cost v before a : Float) → v ≡ cost → a ≡ abs before → lt v (before ⊖ 1e-12 ⊗ a) ≡ lt cost (before ⊖ 1e-12 ⊗ abs before)
 cheaper_is cost v before a e f = rw (e, f)
 
--- the cost reads the distances alone
-pub cost_whole : (p : Problem) (plan : Plan) → cost (of_distances p.roads.size p.roads.distances p.vehicle) plan ≡ cost p plan
-cost_whole p plan =
-    let c = p.places in
-    cost_any p.roads.size p.demand c.service c.ready c.due c.penalty c.flags p.roads.distances p.roads.times p.vehicle plan _ refl
+-- the cost reads the roads alone
+pub cost_whole : (p : Problem) (plan : Plan) → cost (of_roads p.roads p.vehicle) plan ≡ cost p plan
+cost_whole p plan = cost_any p plan _ refl
 
 -- the plan is accepted where the test holds
 module _ (p : Problem) (before : Float) (plan : Plan) (v : Bool)
-    (c : v ≡ lt (cost (of_distances p.roads.size p.roads.distances p.vehicle) plan) (before ⊖ 1e-12 ⊗ abs before)) where
+    (c : v ≡ lt (cost (of_roads p.roads p.vehicle) plan) (before ⊖ 1e-12 ⊗ abs before)) where
   tested : v ≡ lt (cost p plan) (before ⊖ 1e-12 ⊗ abs before)
   tested = c ∙ ap (λ (z : Float). lt z (before ⊖ 1e-12 ⊗ abs before)) (cost_whole p plan)
 

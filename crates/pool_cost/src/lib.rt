@@ -5,7 +5,7 @@
 ghost use Rattle.std.specs.Prelude.{◌≡◌, ◌*◌, ◌<◌, ◌≤◌, length};
 ghost use Rattle.std.specs.Float.Ieee.{lt};
 ghost use Rattle.plan_cost.specs.floats.Binary64.{◌⊖◌, ◌⊗◌, 1e-12, abs};
-ghost use Rattle.plan_cost.specs.models.Problem.{of_distances, Stops};
+ghost use Rattle.plan_cost.specs.models.Problem.{of_roads, Stops};
 ghost use Rattle.plan_cost.specs.laws.All.{All};
 ghost use Rattle.plan_cost.specs.plan.Plan.{Lent, split};
 ghost use Rattle.plan_cost.specs.route_cost.Route.{cost};
@@ -14,7 +14,9 @@ use plan_cost::abs;
 
 // Of the crates below, passed on to those above.
 pub use ejection_pool::{Counts, LocalSearchNext, Pick, Reduction, constrained, next_pick, rounds};
-pub use plan_cost::{Vehicle, copy_part, has_soft_windows, plan_cost};
+pub use plan_cost::{
+    Customers, DistanceMatrix, Instance, Problem, Vehicle, copy_part, has_soft_windows, plan_cost,
+};
 
 // Whether a plan costs less than `before` by more than the tolerance.
 pub fn is_cheaper(
@@ -22,12 +24,12 @@ pub fn is_cheaper(
     stops: &[u16],
     before: f64,
     vehicle: Vehicle,
-    n: usize,
-    distances: &[f64],
+    roads: &DistanceMatrix,
 ) -> bool
-    requires n_bound { (n ≤ 256) × (length distances.now ≡ n * n) }
-    requires depot_id_bound { (vehicle.depot_id < n) × Lent lengths.now stops.now × All (Stops n) (split lengths.now stops.now) }
-    ensures { result ≡ lt (cost (of_distances n distances.now vehicle) (split lengths.now stops.now)) (before ⊖ 1e-12 ⊗ abs before) }
+    requires n_bound { (roads.now.size ≤ 256) × (length roads.now.distances ≡ roads.now.size * roads.now.size) }
+    requires depot_id_bound { (vehicle.depot_id < roads.now.size) × Lent lengths.now stops.now × All (Stops roads.now.size)
+        (split lengths.now stops.now) }
+    ensures { result ≡ lt (cost (of_roads roads.now vehicle) (split lengths.now stops.now)) (before ⊖ 1e-12 ⊗ abs before) }
 {
-    plan_cost(lengths, stops, vehicle, n, distances) < before - 1e-12 * abs(before)
+    plan_cost(lengths, stops, vehicle, roads) < before - 1e-12 * abs(before)
 }

@@ -1,10 +1,9 @@
 -- The failures at the start: one for every place. Assumes nothing.
-use Prim.Native.Nat.{ℕ, zero, suc, ◌-◌, ◌≤◌}
+use Prim.Native.Nat.{ℕ, zero, suc, ◌≤◌}
 use mathlib.Core.Path.{◌≡◌, refl, sym, ap, subst, ◌∙◌}
 use mathlib.Core.Bool.{Bool}
 use mathlib.Core.List.{List, ◌∷◌}
 use native.Mathlib.Nat.{le_of_suc-le-suc, not-suc-le-zero}
-use native.Mathlib.Omega.{arith}
 use lib.ListN.{take, replicate}
 use lib.Ieee.{Float}
 use Rattle.pool_turns.specs.models.Problem.{Problem}
@@ -18,20 +17,15 @@ front_ones zero m h = refl
 front_ones (suc n) zero h = absurd (not-suc-le-zero h)
 front_ones (suc n) (suc m) h = ap (λ (l : List ℕ). 1 ∷ l) (front_ones n m (le_of_suc-le-suc h))
 
-abbrev ones : ℕ → List ℕ
-ones n = take {A = ℕ} (n - 0) (replicate 256 1)
-
+-- the front of the 256 ones, of as many as there are places
 module _ {p : Problem} {tape : List ℕ} {needed : Bool} {limit : ℕ} {ls s pool work : List ℕ} {cells : List Float} {start : ℕ} {counts : Counts}
-    (g : Running p tape needed limit ls s pool work (replicate p.roads.size 1) cells start counts) where
-  ones_are : replicate p.roads.size 1 ≡ ones p.roads.size
-  ones_are =
-      let n = p.roads.size in
-      let e : n - 0 ≡ n = omega arith in
-      sym (ap (λ (k : ℕ). take {A = ℕ} k (replicate 256 1)) e ∙ front_ones n 256 g.admitted.fit.square.few)
+    (g : Running p tape needed limit ls s pool work (replicate p.roads.size 1) cells start counts) (n : ℕ) (e : n ≡ p.roads.size) where
+  ones_are : replicate p.roads.size 1 ≡ take {A = ℕ} n (replicate 256 1)
+  ones_are = rw e (sym (front_ones p.roads.size 256 g.admitted.fit.square.few))
 
-  pub ones_running : Running p tape needed limit ls s pool work (ones p.roads.size) cells start counts
+  pub ones_running : Running p tape needed limit ls s pool work (take n (replicate 256 1)) cells start counts
   ones_running = subst (λ (f : List ℕ). Running p tape needed limit ls s pool work f cells start counts) ones_are g
 
-  pub ones_emptied : (given : Allowance) (x : Tried) → x ≡ run_pool given p limit (state ls s pool start (ones p.roads.size) counts)
+  pub ones_emptied : (given : Allowance) (x : Tried) → x ≡ run_pool given p limit (state ls s pool start (take n (replicate 256 1)) counts)
       → x ≡ run_pool given p limit (state ls s pool start (replicate p.roads.size 1) counts)
   ones_emptied given x e = e ∙ ap (λ (f : List ℕ). run_pool given p limit (state ls s pool start f counts)) (sym ones_are)

@@ -2,13 +2,13 @@
 #![tactic(auto)]
 
 ghost use Rattle.std.specs.Prelude.{◌≡◌, replicate};
-ghost use Rattle.pool_turns.specs.models.Problem.{problem};
 ghost use Rattle.pool_turns.specs.plan.Plan.{Lent, split};
 ghost use Rattle.pool_turns.specs.ejection_pool.Pool.{run_pool};
 ghost use Rattle.pool_turns.specs.ejection_pool.Running.{Running, state, allowance};
 ghost use Rattle.pool_turns.specs.Ends.{said};
+ghost use Rattle.pool_turns.specs.evaluation.Given.{of_instance};
 
-use pool_turns::{Counts, Vehicle, empty_into};
+use pool_turns::{Counts, Instance, Vehicle, empty_into};
 
 // The pool is emptied into the routes, with a failure counted for every place at the start. An error is a pool that is not emptied.
 pub fn empty_pool(
@@ -22,23 +22,12 @@ pub fn empty_pool(
     limit: usize,
     clock: u64,
     counted: Counts,
-    needed: bool,
-    vehicle: Vehicle,
-    demand: &[i32],
-    n: usize,
-    distances: &[f64],
-    times: &[f64],
-    service: &[f64],
-    ready: &[f64],
-    due: &[f64],
-    penalty: &[f64],
-    flags: &[u8],
+    given: &Instance,
 ) -> Result<Counts, Counts>
-    requires { Running (problem n demand.now service.now ready.now due.now penalty.now flags.now distances.now times.now vehicle) tape.now needed limit
-        lengths.old stops.old pool.old work.old (replicate n 1) cells.old start counted }
-    ensures plan { said result (split lengths.new stops.new) ≡ run_pool (allowance limit clock tape.now) (problem n demand.now service.now ready.now due.now penalty.now flags.now
-        distances.now times.now vehicle) limit
-        (state lengths.old stops.old pool.old start (replicate n 1) counted) }
+    requires { Running (of_instance given.now) tape.now given.now.fleet.needed limit lengths.old stops.old pool.old work.old
+        (replicate given.now.fleet.net.roads.size 1) cells.old start counted }
+    ensures plan { said result (split lengths.new stops.new) ≡ run_pool (allowance limit clock tape.now) (of_instance given.now) limit
+        (state lengths.old stops.old pool.old start (replicate given.now.fleet.net.roads.size 1) counted) }
     ensures held { Lent lengths.new stops.new }
 {
     let mut failures = [1u32; 256];
@@ -47,23 +36,13 @@ pub fn empty_pool(
         stops,
         pool,
         work,
-        &mut failures[0..n],
+        &mut failures[..given.fleet.net.roads.size()],
         cells,
         tape,
         start,
         limit,
         clock,
         counted,
-        needed,
-        vehicle,
-        demand,
-        n,
-        distances,
-        times,
-        service,
-        ready,
-        due,
-        penalty,
-        flags,
+        given,
     )
 }

@@ -1,5 +1,6 @@
 -- What the contracts of this crate cite.
 -- crates below, passed on to those above
+pub use Rattle.forced_insertion.specs.evaluation as evaluation
 pub use Rattle.forced_insertion.specs.models as models
 pub use Rattle.forced_insertion.specs.plan as plan
 pub use Rattle.forced_insertion.specs.local_search as local_search

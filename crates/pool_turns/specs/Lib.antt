@@ -2,6 +2,7 @@
 -- how an attempt ends
 pub mod Ends
 -- crates below, passed on to those above
+pub use Rattle.pool_turn.specs.evaluation as evaluation
 pub use Rattle.pool_turn.specs.models as models
 pub use Rattle.pool_turn.specs.plan as plan
 pub use Rattle.pool_turn.specs.local_search as local_search

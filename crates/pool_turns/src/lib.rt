@@ -3,16 +3,16 @@
 #![tactic(auto)]
 
 ghost use Rattle.std.specs.Prelude.{◌≡◌};
-ghost use Rattle.pool_turn.specs.models.Problem.{problem};
 ghost use Rattle.pool_turn.specs.plan.Plan.{Lent, split};
 ghost use Rattle.pool_turn.specs.ejection_pool.Pool.{run_pool};
 ghost use Rattle.pool_turn.specs.ejection_pool.Running.{Running, state, allowance};
 ghost use Rattle.pool_turns.specs.Ends.{said};
+ghost use Rattle.pool_turn.specs.evaluation.Given.{of_instance};
 
 use pool_turn::one_turn;
 
 // Of the crates below, passed on to those above.
-pub use pool_turn::{Counts, Vehicle};
+pub use pool_turn::{Counts, Instance, Vehicle};
 
 // The pool of `start` stops is emptied into the routes, within `limit` steps and while the call's steps are below `clock`. An error is a pool that is not
 // emptied. Either comes with the counts of the call so far.
@@ -28,22 +28,11 @@ pub fn empty_into(
     limit: usize,
     clock: u64,
     counted: Counts,
-    needed: bool,
-    vehicle: Vehicle,
-    demand: &[i32],
-    n: usize,
-    distances: &[f64],
-    times: &[f64],
-    service: &[f64],
-    ready: &[f64],
-    due: &[f64],
-    penalty: &[f64],
-    flags: &[u8],
+    given: &Instance,
 ) -> Result<Counts, Counts>
-    requires { Running (problem n demand.now service.now ready.now due.now penalty.now flags.now distances.now times.now vehicle) tape.now needed limit
-        lengths.old stops.old pool.old work.old failures.old cells.old start counted }
-    ensures plan { said result (split lengths.new stops.new) ≡ run_pool (allowance limit clock tape.now) (problem n demand.now service.now ready.now due.now penalty.now flags.now
-        distances.now times.now vehicle) limit
+    requires { Running (of_instance given.now) tape.now given.now.fleet.needed limit lengths.old stops.old pool.old work.old failures.old cells.old
+        start counted }
+    ensures plan { said result (split lengths.new stops.new) ≡ run_pool (allowance limit clock tape.now) (of_instance given.now) limit
         (state lengths.old stops.old pool.old start failures.old counted) }
     ensures held { Lent lengths.new stops.new }
 {
@@ -56,8 +45,7 @@ pub fn empty_into(
         }
         left -= 1;
         (count, counts) = one_turn(
-            lengths, stops, pool, work, failures, cells, tape, count, counts, needed, vehicle,
-            demand, n, distances, times, service, ready, due, penalty, flags,
+            lengths, stops, pool, work, failures, cells, tape, count, counts, given,
         )?;
     }
     Ok(counts)

@@ -6,5 +6,8 @@ pub mod sizes;
 
 // Of the crates below, passed on to those above.
 pub use models::customer::TimeWindow;
+pub use models::customers::Customers;
 pub use models::limits::RouteLimits;
+pub use models::matrix::DistanceMatrix;
+pub use models::problem::Problem;
 pub use models::vehicle::{Vehicle, VehicleBreak};

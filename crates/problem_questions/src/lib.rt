@@ -2,58 +2,30 @@
 #![tactic(auto)]
 
 ghost use Rattle.std.specs.Prelude.{◌≡◌};
-ghost use Rattle.planner_questions.specs.models.Problem.{problem};
+ghost use Rattle.planner_questions.specs.models.Lent.{of_problem};
 ghost use Rattle.planner_questions.specs.planner.Calls.{public_lateness_bound, public_gain_floor, public_time_window_new};
 ghost use Rattle.planner_questions.specs.planner.Told.{told};
 
 use planner_questions::{Refusal, TimeWindow, bound, problem_refusal};
 
 // Of the crates below, passed on to those above.
-pub use planner_questions::{Vehicle, VehicleBreak};
+pub use planner_questions::{Customers, DistanceMatrix, Problem, Vehicle, VehicleBreak};
 
 // The bound on the lateness cost of a route.
-pub fn lateness_bound(
-    n: usize,
-    demand: &[i32],
-    service: &[f64],
-    ready: &[f64],
-    due: &[f64],
-    penalty: &[f64],
-    flags: &[u8],
-    distances: &[f64],
-    times: &[f64],
-    vehicle: Vehicle,
-) -> Result<f64, Refusal>
-    ensures { told result ≡ public_lateness_bound (problem n demand.now service.now ready.now due.now penalty.now flags.now
-        distances.now times.now vehicle) }
+pub fn lateness_bound(problem: &Problem) -> Result<f64, Refusal>
+    ensures { told result ≡ public_lateness_bound (of_problem problem.now) }
 {
-    problem_refusal(
-        n, demand, service, ready, due, penalty, flags, distances, times, vehicle,
-    )?;
-    let most = bound::lateness_bound(n, distances, times, service, ready, due, penalty, flags);
+    problem_refusal(problem)?;
+    let most = bound::lateness_bound(&problem.network());
     Ok(most)
 }
 
 // The least gain that counts as one.
-pub fn gain_floor(
-    n: usize,
-    demand: &[i32],
-    service: &[f64],
-    ready: &[f64],
-    due: &[f64],
-    penalty: &[f64],
-    flags: &[u8],
-    distances: &[f64],
-    times: &[f64],
-    vehicle: Vehicle,
-) -> Result<f64, Refusal>
-    ensures { told result ≡ public_gain_floor (problem n demand.now service.now ready.now due.now penalty.now flags.now
-        distances.now times.now vehicle) }
+pub fn gain_floor(problem: &Problem) -> Result<f64, Refusal>
+    ensures { told result ≡ public_gain_floor (of_problem problem.now) }
 {
-    problem_refusal(
-        n, demand, service, ready, due, penalty, flags, distances, times, vehicle,
-    )?;
-    let floor = planner_questions::route_cost_gain_floor(distances);
+    problem_refusal(problem)?;
+    let floor = planner_questions::route_cost_gain_floor(problem.roads.distances());
     Ok(floor)
 }
 

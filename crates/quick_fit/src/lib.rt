@@ -3,8 +3,7 @@
 #![tactic(auto)]
 
 ghost use Rattle.std.specs.Prelude.{◌≡◌, ◌≤◌, ◌<◌, length, get_or, take};
-ghost use Rattle.quick_test.specs.models.Customer.{customers};
-ghost use Rattle.quick_test.specs.models.Problem.{matrix, Square, Fit, Stops};
+ghost use Rattle.quick_test.specs.models.Problem.{Square, Stops};
 ghost use Rattle.quick_test.specs.Quick.{in_time, left_before, may_fit};
 ghost use Rattle.quick_test.specs.Parts.{leave, next_in_time};
 
@@ -12,9 +11,10 @@ use quick_test::{abs, max, prev_stop};
 
 // Of the crates below, passed on to those above.
 pub use quick_test::{
-    Counts, Insertion, LocalSearchNext, Pick, Reduction, TimeWindow, Vehicle, checked, constrained,
-    copy_part, customer_at, feasible, has_room, infinity, insertion_cost, leave, min, next_pick,
-    offset, put_in, rounds, take_out, travel_time, trial_ok, within_capacity,
+    Counts, DistanceMatrix, Fleet, Insertion, Instance, LocalSearchNext, Network, Pick, Reduction,
+    TimeWindow, Vehicle, checked, constrained, copy_part, customer_at, feasible, has_room,
+    infinity, insertion_cost, leave, min, next_pick, offset, put_in, rounds, take_out, travel_time,
+    trial_ok, within_capacity,
 };
 
 // Whether an arrival is by a bound, with room for rounding. A bound of -infinity makes a NaN, and the answer is no.
@@ -50,17 +50,15 @@ fn next_in_time(
     latest: &[f64],
     pos: usize,
     c: usize,
-    n: usize,
-    distances: &[f64],
-    times: &[f64],
+    roads: &DistanceMatrix,
 ) -> bool
-    requires square { Square (matrix n distances.now times.now) }
-    requires c_lt_n { (c < n) × Stops n route.now × (length route.now ≤ length latest.now) }
-    ensures { result ≡ next_in_time (matrix n distances.now times.now) route.now latest.now pos c left }
+    requires square { Square roads.now }
+    requires c_lt_n { (c < roads.now.size) × Stops roads.now.size route.now × (length route.now ≤ length latest.now) }
+    ensures { result ≡ next_in_time roads.now route.now latest.now pos c left }
 {
     if pos < route.len() {
         let next = stop_at(route, pos);
-        let arrival = left + travel_time(distances, times, n, c, next);
+        let arrival = left + travel_time(roads, c, next);
         return in_time(arrival, latest[pos]);
     }
     true
@@ -75,28 +73,17 @@ pub fn may_fit(
     pos: usize,
     c: usize,
     depot: usize,
-    n: usize,
-    distances: &[f64],
-    times: &[f64],
-    service: &[f64],
-    ready: &[f64],
-    due: &[f64],
-    penalty: &[f64],
-    flags: &[u8],
+    net: &Network,
 ) -> bool
-    requires fit { Fit (customers service.now ready.now due.now penalty.now flags.now) (matrix n distances.now times.now) }
-    requires depot_lt_n { (depot < n) × (c < n) × Stops n route.now × (pos ≤ length route.now)
+    requires { (depot < net.now.roads.size) × (c < net.now.roads.size) × Stops net.now.roads.size route.now × (pos ≤ length route.now)
         × (length route.now ≤ length departures.now) × (length route.now ≤ length latest.now) }
-    ensures { result ≡ may_fit (customers service.now ready.now due.now penalty.now flags.now)
-        (matrix n distances.now times.now) depot route.now
-        (take (length route.now) departures.now) (take (length route.now) latest.now) pos c }
+    ensures { result ≡ may_fit net.now.places net.now.roads depot route.now (take (length route.now) departures.now)
+        (take (length route.now) latest.now) pos c }
 {
     let before = left_before(departures, pos);
     let prev = prev_stop(depot, route, pos);
-    let Some(left) = leave(
-        before, prev, c, n, distances, times, service, ready, due, penalty, flags,
-    ) else {
+    let Some(left) = leave(before, prev, c, net) else {
         return false;
     };
-    next_in_time(left, route, latest, pos, c, n, distances, times)
+    next_in_time(left, route, latest, pos, c, &net.roads)
 }

@@ -3,8 +3,6 @@
 #![tactic(auto)]
 
 ghost use Rattle.std.specs.Prelude.{◌≡◌, ◌<◌};
-ghost use Rattle.insertion_cost.specs.models.Customer.{customers};
-ghost use Rattle.insertion_cost.specs.models.Problem.{matrix, Fit};
 ghost use Rattle.quick_test.specs.Quick.{served_at};
 ghost use Rattle.quick_test.specs.Parts.{leave};
 
@@ -12,9 +10,10 @@ use insertion_cost::Customer;
 
 // Of the crates below, passed on to those above.
 pub use insertion_cost::{
-    Counts, Insertion, LocalSearchNext, Pick, Reduction, TimeWindow, Vehicle, abs, checked,
-    constrained, copy_part, customer_at, feasible, has_room, infinity, insertion_cost, max, min,
-    next_pick, offset, prev_stop, put_in, rounds, take_out, travel_time, trial_ok, within_capacity,
+    Counts, DistanceMatrix, Fleet, Insertion, Instance, LocalSearchNext, Network, Pick, Reduction,
+    TimeWindow, Vehicle, abs, checked, constrained, copy_part, customer_at, feasible, has_room,
+    infinity, insertion_cost, max, min, next_pick, offset, prev_stop, put_in, rounds, take_out,
+    travel_time, trial_ok, within_capacity,
 };
 
 // When the service of a customer ends after `arrival`; none once its window has closed, with a penalty or without.
@@ -33,25 +32,11 @@ pub fn served_at(arrival: f64, customer: Customer) -> Option<f64>
 
 // The drive from `prev`, left at `time`, to c and the service there.
 #[tactic(auto, unfolding(crate::specs::Parts::leave))]
-pub fn leave(
-    time: f64,
-    prev: usize,
-    c: usize,
-    n: usize,
-    distances: &[f64],
-    times: &[f64],
-    service: &[f64],
-    ready: &[f64],
-    due: &[f64],
-    penalty: &[f64],
-    flags: &[u8],
-) -> Option<f64>
-    requires fit { Fit (customers service.now ready.now due.now penalty.now flags.now) (matrix n distances.now times.now) }
-    requires prev_lt_n { (prev < n) × (c < n) }
-    ensures { result ≡ leave (customers service.now ready.now due.now penalty.now flags.now)
-        (matrix n distances.now times.now) time prev c }
+pub fn leave(time: f64, prev: usize, c: usize, net: &Network) -> Option<f64>
+    requires { (prev < net.now.roads.size) × (c < net.now.roads.size) }
+    ensures { result ≡ leave net.now.places net.now.roads time prev c }
 {
-    let arrival = time + travel_time(distances, times, n, prev, c);
-    let customer = customer_at(c, service, ready, due, penalty, flags);
+    let arrival = time + travel_time(&net.roads, prev, c);
+    let customer = customer_at(c, &net.places);
     served_at(arrival, customer)
 }

@@ -2,15 +2,13 @@
 #![tactic(auto)]
 
 ghost use Rattle.std.specs.Prelude.{◌≡◌, ◌+◌, ◌≤◌, ◌<◌, ◌^◌, length};
-ghost use Rattle.pair_move.specs.models.RouteLimits.{limits_of};
-ghost use Rattle.pair_move.specs.models.Problem.{problem, Admitted};
-ghost use Rattle.pair_move.specs.evaluation.Check.{route_checks_needed};
 ghost use Rattle.pair_move.specs.plan.Plan.{Holds, Lent, split, total};
 ghost use Rattle.pair_move.specs.local_search.Planned.{Planned};
 ghost use Rattle.pair_move.specs.perturbation.Perturb.{Drawn, perturb};
+ghost use Rattle.pair_move.specs.evaluation.Given.{of_instance};
 
 use crate::moves::one_move;
-use pair_move::Vehicle;
+use pair_move::{Instance, Vehicle};
 
 pub mod moves;
 
@@ -24,24 +22,13 @@ pub fn perturb(
     work: &mut [u16],
     tape: &[u64],
     drawn: u64,
-    needed: bool,
-    vehicle: Vehicle,
-    demand: &[i32],
-    n: usize,
-    distances: &[f64],
-    times: &[f64],
-    service: &[f64],
-    ready: &[f64],
-    due: &[f64],
-    penalty: &[f64],
-    flags: &[u8],
+    given: &Instance,
 ) -> u64
-    requires admitted { Admitted (problem n demand.now service.now ready.now due.now penalty.now flags.now distances.now times.now vehicle) }
-    requires lent { Lent lengths.old stops.old × Planned n (split lengths.old stops.old) × (0 < length tape.now) × (length stops.old ≤ length work.old) × (drawn + 500 < 2 ^ 64) × (needed ≡ route_checks_needed flags.now (limits_of vehicle)) }
-    ensures plan { Holds (perturb (problem n demand.now service.now ready.now due.now penalty.now flags.now
-        distances.now times.now vehicle) tape.now (record { routes = split lengths.old stops.old; draws = drawn })).routes (total lengths.old) lengths.new stops.new }
-    ensures draws { result ≡ (perturb (problem n demand.now service.now ready.now due.now penalty.now flags.now
-        distances.now times.now vehicle) tape.now (record { routes = split lengths.old stops.old; draws = drawn })).draws }
+    requires { Lent lengths.old stops.old × Planned given.now.fleet.net.roads.size (split lengths.old stops.old) × (0 < length tape.now)
+        × (length stops.old ≤ length work.old) × (drawn + 500 < 2 ^ 64) }
+    ensures plan { Holds (perturb (of_instance given.now) tape.now (record { routes = split lengths.old stops.old; draws = drawn })).routes
+        (total lengths.old) lengths.new stops.new }
+    ensures draws { result ≡ (perturb (of_instance given.now) tape.now (record { routes = split lengths.old stops.old; draws = drawn })).draws }
 {
     if lengths.len() < 2 {
         return drawn;
@@ -49,10 +36,7 @@ pub fn perturb(
     let mut d = drawn;
     let mut i: usize = 0;
     while i < 100 {
-        d = one_move(
-            lengths, stops, work, tape, d, needed, vehicle, demand, n, distances, times, service,
-            ready, due, penalty, flags,
-        );
+        d = one_move(lengths, stops, work, tape, d, given);
         i += 1;
     }
     d

@@ -3,7 +3,7 @@
 #![tactic(auto)]
 
 ghost use Rattle.std.specs.Prelude.{◌≡◌};
-ghost use Rattle.call_history.specs.models.Problem.{problem};
+ghost use Rattle.call_history.specs.models.Lent.{of_problem};
 ghost use Rattle.call_history.specs.call_words.Words.{buffers};
 ghost use Rattle.recorded_call.specs.Recording.{Next, Recorded};
 
@@ -11,7 +11,7 @@ use call_history::{record_answer, record_slices, words_at};
 use called::run_call;
 
 // Of the crates below, passed on to those above.
-pub use call_history::{Vehicle, well_formed};
+pub use call_history::{Problem, Vehicle, well_formed};
 pub use called::{eliminate, minimise};
 
 // Call i, run and recorded. Its tape begins at `from`; the answer is where the next one begins.
@@ -26,27 +26,15 @@ pub fn run_next(
     tapes: &[u64],
     i: usize,
     from: usize,
-    n: usize,
-    demand: &[i32],
-    service: &[f64],
-    ready: &[f64],
-    due: &[f64],
-    penalty: &[f64],
-    flags: &[u8],
-    distances: &[f64],
-    times: &[f64],
-    vehicle: Vehicle,
+    problem: &Problem,
 ) -> usize
     requires { Next i from calls.now tapes.now (buffers lengths.old stops.old work.old cells.old answers.old history.old) }
-    ensures { Recorded i from result (problem n demand.now service.now ready.now due.now penalty.now flags.now
-        distances.now times.now vehicle)
-        calls.now tapes.now (buffers lengths.old stops.old work.old cells.old answers.old history.old) (buffers lengths.new stops.new work.new cells.new answers.new history.new) }
+    ensures { Recorded i from result (of_problem problem.now) calls.now tapes.now
+        (buffers lengths.old stops.old work.old cells.old answers.old history.old)
+        (buffers lengths.new stops.new work.new cells.new answers.new history.new) }
 {
     let w = words_at(calls, i);
-    let a = run_call(
-        lengths, stops, work, cells, tapes, from, w, n, demand, service, ready, due, penalty,
-        flags, distances, times, vehicle,
-    );
+    let a = run_call(lengths, stops, work, cells, tapes, from, w, problem);
     record_answer(answers, i, a);
     record_slices(history, i, lengths, stops);
     let tape = w.tape;

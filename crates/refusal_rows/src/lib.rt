@@ -2,7 +2,8 @@
 #![tactic(auto)]
 
 ghost use Rattle.std.specs.Prelude.{◌≡◌, true, []};
-ghost use Rattle.place_checks.specs.models.Problem.{problem, of_distances};
+ghost use Rattle.place_checks.specs.models.Lent.{of_problem};
+ghost use Rattle.place_checks.specs.models.Problem.{of_distances};
 ghost use Rattle.place_checks.specs.models.Valid.{sizes_pass, values_pass};
 ghost use Rattle.stop_checks.specs.plan.Plan.{Slices};
 ghost use Rattle.stop_checks.specs.entry.Table.{Work};
@@ -13,68 +14,42 @@ use place_checks::{amounts_pass, places_pass, sizes_pass, vehicle_passes, window
 use stop_checks::{bad_lengths, stops_pass};
 
 // Of the crates below, passed on to those above.
-pub use place_checks::{RouteLimits, TimeWindow, Vehicle, VehicleBreak, break_passes};
+pub use place_checks::{
+    Customers, DistanceMatrix, Problem, RouteLimits, TimeWindow, Vehicle, VehicleBreak,
+    break_passes,
+};
 pub use stop_checks::{
     Refusal, RouteEval, break_schedule_schedule, evaluation_check, route_cost_gain_floor,
     route_cost_route_distance,
 };
 
 // Whether row 2 lets the problem pass, where row 1 does.
-fn values_pass(
-    n: usize,
-    demand: &[i32],
-    service: &[f64],
-    ready: &[f64],
-    due: &[f64],
-    penalty: &[f64],
-    flags: &[u8],
-    distances: &[f64],
-    times: &[f64],
-    vehicle: Vehicle,
-) -> bool
-    requires { sizes_pass (problem n demand.now service.now ready.now due.now penalty.now flags.now distances.now times.now vehicle) ≡ true }
-    ensures { result ≡ values_pass (problem n demand.now service.now ready.now due.now penalty.now flags.now
-        distances.now times.now vehicle) }
+fn values_pass(problem: &Problem) -> bool
+    requires { sizes_pass (of_problem problem.now) ≡ true }
+    ensures { result ≡ values_pass (of_problem problem.now) }
 {
-    vehicle_passes(vehicle)
-        && amounts_pass(service)
-        && amounts_pass(distances)
-        && amounts_pass(times)
-        && places_pass(demand, ready, due, penalty, flags)
+    let (places, roads) = (problem.places, problem.roads);
+    vehicle_passes(problem.vehicle)
+        && amounts_pass(places.service)
+        && amounts_pass(roads.distances)
+        && amounts_pass(roads.times)
+        && places_pass(problem.demand, places)
 }
 
 // Rows 1 to 4. `beside` says whether the floats that a call is given beside the problem pass row 2.
-pub fn problem_rows(
-    beside: bool,
-    n: usize,
-    demand: &[i32],
-    service: &[f64],
-    ready: &[f64],
-    due: &[f64],
-    penalty: &[f64],
-    flags: &[u8],
-    distances: &[f64],
-    times: &[f64],
-    vehicle: Vehicle,
-) -> Result<(), Refusal>
-    ensures { row_of result ≡ problem_rows beside (problem n demand.now service.now ready.now due.now penalty.now flags.now
-        distances.now times.now vehicle) }
+pub fn problem_rows(beside: bool, problem: &Problem) -> Result<(), Refusal>
+    ensures { row_of result ≡ problem_rows beside (of_problem problem.now) }
 {
-    if !sizes_pass(
-        n, demand, service, ready, due, penalty, flags, distances, times, vehicle,
-    ) {
+    if !sizes_pass(problem) {
         return Err(Refusal::Sizes);
     }
-    if !(values_pass(
-        n, demand, service, ready, due, penalty, flags, distances, times, vehicle,
-    ) && beside)
-    {
+    if !(values_pass(problem) && beside) {
         return Err(Refusal::Values);
     }
-    if !windows_pass(ready, due, flags) {
+    if !windows_pass(problem.places) {
         return Err(Refusal::Windows);
     }
-    if vehicle.depot_id >= n {
+    if problem.vehicle.depot_id >= problem.roads.size() {
         return Err(Refusal::Depot);
     }
     Ok(())

@@ -1,108 +1,53 @@
 // What each public call is refused with: the first row that applies.
 ghost use Rattle.std.specs.Prelude.{◌≡◌};
-ghost use Rattle.refusal_rows.specs.models.Problem.{problem};
+ghost use Rattle.refusal_rows.specs.models.Lent.{of_problem};
 ghost use Rattle.refusal_rows.specs.plan.Plan.{Slices};
 ghost use Rattle.refusal_rows.specs.entry.Table.{Work, refusal};
 ghost use Rattle.refusal_rows.specs.entry.Given.{row_of, problem_inputs, route_inputs, schedule_inputs, eliminate_inputs, minimise_inputs};
 
 use refusal_rows::{
-    Refusal, Vehicle, VehicleBreak, break_passes, minimise_rows, plan_rows, problem_rows,
+    Problem, Refusal, Vehicle, VehicleBreak, break_passes, minimise_rows, plan_rows, problem_rows,
     route_rows, work_rows,
 };
 
 // A call that is given the problem alone: rows 1 to 4.
-pub fn problem_refusal(
-    n: usize,
-    demand: &[i32],
-    service: &[f64],
-    ready: &[f64],
-    due: &[f64],
-    penalty: &[f64],
-    flags: &[u8],
-    distances: &[f64],
-    times: &[f64],
-    vehicle: Vehicle,
-) -> Result<(), Refusal>
-    ensures { row_of result ≡ refusal (problem_inputs (problem n demand.now service.now ready.now due.now penalty.now flags.now
-        distances.now times.now vehicle)) }
+pub fn problem_refusal(problem: &Problem) -> Result<(), Refusal>
+    ensures { row_of result ≡ refusal (problem_inputs (of_problem problem.now)) }
 {
-    problem_rows(
-        true, n, demand, service, ready, due, penalty, flags, distances, times, vehicle,
-    )
+    problem_rows(true, problem)
 }
 
 // A call that is given a route beside the problem: rows 1 to 4, then 6.
-pub fn route_refusal(
-    route: &[u16],
-    n: usize,
-    demand: &[i32],
-    service: &[f64],
-    ready: &[f64],
-    due: &[f64],
-    penalty: &[f64],
-    flags: &[u8],
-    distances: &[f64],
-    times: &[f64],
-    vehicle: Vehicle,
-) -> Result<(), Refusal>
-    ensures { row_of result ≡ refusal (route_inputs (problem n demand.now service.now ready.now due.now penalty.now flags.now
-        distances.now times.now vehicle) route.now) }
+pub fn route_refusal(route: &[u16], problem: &Problem) -> Result<(), Refusal>
+    ensures { row_of result ≡ refusal (route_inputs (of_problem problem.now) route.now) }
 {
-    problem_rows(
-        true, n, demand, service, ready, due, penalty, flags, distances, times, vehicle,
-    )?;
-    route_rows(n, vehicle, route)
+    problem_rows(true, problem)?;
+    route_rows(problem.roads.size(), problem.vehicle, route)
 }
 
 // `schedule`, which is given a route and a break: the floats of the break belong to row 2.
-pub fn schedule_refusal(
-    route: &[u16],
-    rest: VehicleBreak,
-    n: usize,
-    demand: &[i32],
-    service: &[f64],
-    ready: &[f64],
-    due: &[f64],
-    penalty: &[f64],
-    flags: &[u8],
-    distances: &[f64],
-    times: &[f64],
-    vehicle: Vehicle,
-) -> Result<(), Refusal>
-    ensures { row_of result ≡ refusal (schedule_inputs (problem n demand.now service.now ready.now due.now penalty.now flags.now
-        distances.now times.now vehicle) rest route.now) }
+pub fn schedule_refusal(route: &[u16], rest: VehicleBreak, problem: &Problem) -> Result<(), Refusal>
+    ensures { row_of result ≡ refusal (schedule_inputs (of_problem problem.now) rest route.now) }
 {
     let beside = break_passes(rest);
-    problem_rows(
-        beside, n, demand, service, ready, due, penalty, flags, distances, times, vehicle,
-    )?;
-    route_rows(n, vehicle, route)
+    problem_rows(beside, problem)?;
+    route_rows(problem.roads.size(), problem.vehicle, route)
 }
 
 // eliminate: rows 1 to 6 and 9. `small` and `wide` are the numbers of u16 and f64 work cells.
 pub fn eliminate_refusal(
     lengths: &[u16],
     stops: &[u16],
-    n: usize,
-    demand: &[i32],
-    service: &[f64],
-    ready: &[f64],
-    due: &[f64],
-    penalty: &[f64],
-    flags: &[u8],
-    distances: &[f64],
-    times: &[f64],
-    vehicle: Vehicle,
+    problem: &Problem,
     small: usize,
     wide: usize,
 ) -> Result<(), Refusal>
-    ensures { row_of result ≡ refusal (eliminate_inputs (problem n demand.now service.now ready.now due.now penalty.now flags.now
-        distances.now times.now vehicle) (record { lengths = lengths.entry.now; stops = stops.now }) (record { u16_cells = small; f64_cells = wide })) }
+    ensures { row_of result ≡ refusal
+        (eliminate_inputs (of_problem problem.now) (record { lengths = lengths.entry.now; stops = stops.now })
+        (record { u16_cells = small; f64_cells = wide })) }
 {
-    problem_rows(
-        true, n, demand, service, ready, due, penalty, flags, distances, times, vehicle,
-    )?;
-    plan_rows(n, vehicle, lengths, stops)?;
+    problem_rows(true, problem)?;
+    plan_rows(problem.roads.size(), problem.vehicle, lengths, stops)?;
     work_rows(small, wide)
 }
 
@@ -110,27 +55,17 @@ pub fn eliminate_refusal(
 pub fn minimise_refusal(
     lengths: &[u16],
     stops: &[u16],
-    n: usize,
-    demand: &[i32],
-    service: &[f64],
-    ready: &[f64],
-    due: &[f64],
-    penalty: &[f64],
-    flags: &[u8],
-    distances: &[f64],
-    times: &[f64],
-    vehicle: Vehicle,
+    problem: &Problem,
     tape: &[u64],
     limit: u64,
     small: usize,
     wide: usize,
 ) -> Result<(), Refusal>
-    ensures { row_of result ≡ refusal (minimise_inputs (problem n demand.now service.now ready.now due.now penalty.now flags.now
-        distances.now times.now vehicle) (record { lengths = lengths.entry.now; stops = stops.now }) tape.now limit (record { u16_cells = small; f64_cells = wide })) }
+    ensures { row_of result ≡ refusal
+        (minimise_inputs (of_problem problem.now) (record { lengths = lengths.entry.now; stops = stops.now }) tape.now limit
+        (record { u16_cells = small; f64_cells = wide })) }
 {
-    problem_rows(
-        true, n, demand, service, ready, due, penalty, flags, distances, times, vehicle,
-    )?;
-    plan_rows(n, vehicle, lengths, stops)?;
+    problem_rows(true, problem)?;
+    plan_rows(problem.roads.size(), problem.vehicle, lengths, stops)?;
     minimise_rows(tape, limit, small, wide)
 }

@@ -14,7 +14,7 @@ use borrow.Author.Rules.{rules}
 use Rattle.reinsertion_candidates.specs.floats.Binary64.{is_finite}
 use Rattle.reinsertion_candidates.specs.laws.Loops.{loop, loop_none, loop_more, loop_end, loop_same}
 use Rattle.reinsertion_candidates.specs.models.declared.vehicle.Vehicle.{Vehicle}
-use Rattle.reinsertion_candidates.specs.models.Problem.{Problem, problem, of_demand}
+use Rattle.reinsertion_candidates.specs.models.Problem.{Problem, of_demand, problem_of}
 use Rattle.reinsertion_candidates.specs.route_cost.declared.Insertion.{Insertion}
 use Rattle.reinsertion_candidates.specs.route_load.Feasible.{has_room}
 use Rattle.reinsertion_candidates.specs.LocalSearchReadLaws.{room_any}
@@ -86,17 +86,13 @@ pub ruleset looking_laws = (rules, looking_start, looking_next, looking_end)
 
 -- ---- a route: it has no room; its positions are looked at
 
-module _ (n : ℕ) (demand : List ℤ) (service ready due penalty : List Float) (flags : List ℕ) (distances times : List Float) (vehicle : Vehicle)
-    (m : Move) (k : ℕ) (r : List ℕ) (best : Option Insertion) (v : Bool) (ev : v ≡ has_room (of_demand demand vehicle) r m.c) where
-  abbrev p : Problem
-  p = problem n demand service ready due penalty flags distances times vehicle
-
+module _ (p : Problem) (m : Move) (k : ℕ) (r : List ℕ) (best : Option Insertion) (v : Bool) (ev : v ≡ has_room (of_demand p.demand p.vehicle) r m.c) where
   -- no demand is read
   abbrev unladen : Problem
-  unladen = problem n [] service ready due penalty flags distances times vehicle
+  unladen = problem_of [] p.places p.roads p.vehicle
 
   room : v ≡ has_room p r m.c
-  room = room_any n demand service ready due penalty flags distances times vehicle r m.c v ev
+  room = room_any p r m.c v ev
 
   pub through_full : v ≡ false → best ≡ look_through p m.c m.added m.saved k r best
   unfolding look_through

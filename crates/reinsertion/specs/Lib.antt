@@ -1,5 +1,6 @@
 -- What the contracts of this crate cite.
 -- crates below, passed on to those above
+pub use Rattle.reinsertion_candidates.specs.evaluation as evaluation
 pub use Rattle.reinsertion_candidates.specs.laws as laws
 pub use Rattle.reinsertion_candidates.specs.floats as floats
 pub use Rattle.reinsertion_candidates.specs.models as models

@@ -4,19 +4,22 @@
 
 ghost use Rattle.std.specs.Prelude.{◌≡◌, [], suc, ◌-◌, ◌<◌, ◌≤◌, length, take, drop};
 ghost use Rattle.reinsertion_candidates.specs.laws.Loops.{loop};
-ghost use Rattle.reinsertion_candidates.specs.models.Problem.{problem, Stops};
+ghost use Rattle.reinsertion_candidates.specs.models.Problem.{Stops};
 ghost use Rattle.reinsertion_candidates.specs.plan.Plan.{split};
 ghost use Rattle.reinsertion_candidates.specs.reinsertion_worth.Worth.{current};
 ghost use Rattle.reinsertion_candidates.specs.Candidates.{candidates, by_cost, first_passing};
 ghost use Rattle.reinsertion_candidates.specs.Place.{look_at, look_through, look_over};
 ghost use Rattle.reinsertion_candidates.specs.Asked.{Asked, Looked, Room};
+ghost use Rattle.reinsertion_candidates.specs.evaluation.Given.{of_instance, of_fleet};
 
-use reinsertion_candidates::{Insertion, current, has_room, insertion_worth, leads, settles};
+use reinsertion_candidates::{
+    Fleet, Insertion, current, has_room, insertion_worth, leads, settles,
+};
 
 // Of the crates below, passed on to those above.
 pub use reinsertion_candidates::{
-    Counts, LocalSearchNext, Move, Pick, Reduction, Vehicle, constrained, has_soft_windows,
-    is_finite, next_pick, put_in, route_cost_gain_floor, worth,
+    Counts, Instance, LocalSearchNext, Move, Pick, Problem, Reduction, Vehicle, constrained,
+    has_soft_windows, is_finite, next_pick, put_in, route_cost_gain_floor, worth,
 };
 
 // One position of route k, which has room for the stop: the better of what it gives and the best so far.
@@ -27,31 +30,13 @@ fn look_at(
     before: f64,
     best: Option<Insertion>,
     stop: Move,
-    vehicle: Vehicle,
-    n: usize,
-    distances: &[f64],
-    times: &[f64],
-    service: &[f64],
-    ready: &[f64],
-    due: &[f64],
-    penalty: &[f64],
-    flags: &[u8],
+    fleet: &Fleet,
 ) -> Option<Insertion>
-    requires { Looked (problem n [] service.now ready.now due.now penalty.now flags.now distances.now times.now vehicle) stop route.now × (pos ≤ length route.now)
-        × (before ≡ current (problem n [] service.now ready.now due.now penalty.now flags.now distances.now times.now vehicle) route.now) }
-    ensures { result ≡ look_at (problem n [] service.now ready.now due.now penalty.now flags.now
-        distances.now times.now vehicle) stop.c stop.added stop.saved k route.now pos best }
+    requires { Looked (of_fleet fleet.now) stop route.now × (pos ≤ length route.now) × (before ≡ current (of_fleet fleet.now) route.now) }
+    ensures { result ≡ look_at (of_fleet fleet.now) stop.c stop.added stop.saved k route.now pos best }
 {
-    let cost = insertion_worth(
-        route, pos, stop.c, before, stop.soft, vehicle, n, distances, times, service, ready, due,
-        penalty, flags,
-    );
-    if leads(cost, stop.soft, best)
-        && settles(
-            route, pos, cost, stop, vehicle, n, distances, times, service, ready, due, penalty,
-            flags,
-        )
-    {
+    let cost = insertion_worth(route, pos, stop.c, before, stop.soft, fleet);
+    if leads(cost, stop.soft, best) && settles(route, pos, cost, stop, fleet) {
         Some(Insertion {
             cost: cost,
             route: k,
@@ -69,27 +54,14 @@ fn look_along(
     before: f64,
     best: Option<Insertion>,
     stop: Move,
-    vehicle: Vehicle,
-    n: usize,
-    distances: &[f64],
-    times: &[f64],
-    service: &[f64],
-    ready: &[f64],
-    due: &[f64],
-    penalty: &[f64],
-    flags: &[u8],
+    fleet: &Fleet,
 ) -> Option<Insertion>
-    requires { Looked (problem n [] service.now ready.now due.now penalty.now flags.now distances.now times.now vehicle) stop route.now
-        × (before ≡ current (problem n [] service.now ready.now due.now penalty.now flags.now distances.now times.now vehicle) route.now) }
-    ensures { result ≡ loop (suc (length route.now)) (look_at (problem n [] service.now ready.now due.now penalty.now flags.now
-        distances.now times.now vehicle) stop.c stop.added stop.saved k route.now) best }
+    requires { Looked (of_fleet fleet.now) stop route.now × (before ≡ current (of_fleet fleet.now) route.now) }
+    ensures { result ≡ loop (suc (length route.now)) (look_at (of_fleet fleet.now) stop.c stop.added stop.saved k route.now) best }
 {
     let mut found = best;
     for pos in 0..route.len() + 1 {
-        found = look_at(
-            route, pos, k, before, found, stop, vehicle, n, distances, times, service, ready, due,
-            penalty, flags,
-        );
+        found = look_at(route, pos, k, before, found, stop, fleet);
     }
     found
 }
@@ -100,30 +72,15 @@ fn look_through(
     k: usize,
     best: Option<Insertion>,
     stop: Move,
-    vehicle: Vehicle,
-    demand: &[i32],
-    n: usize,
-    distances: &[f64],
-    times: &[f64],
-    service: &[f64],
-    ready: &[f64],
-    due: &[f64],
-    penalty: &[f64],
-    flags: &[u8],
+    given: &Instance,
 ) -> Option<Insertion>
-    requires { Asked (problem n demand.now service.now ready.now due.now penalty.now flags.now distances.now times.now vehicle) stop × Stops n route.now × (length route.now < 256) }
-    ensures { result ≡ look_through (problem n demand.now service.now ready.now due.now penalty.now flags.now
-        distances.now times.now vehicle) stop.c stop.added stop.saved k route.now best }
+    requires { Asked (of_instance given.now) stop × Stops given.now.fleet.net.roads.size route.now × (length route.now < 256) }
+    ensures { result ≡ look_through (of_instance given.now) stop.c stop.added stop.saved k route.now best }
 {
-    let room = has_room(route, stop.c, demand, vehicle);
+    let room = has_room(route, stop.c, given.demand, given.fleet.vehicle);
     if room {
-        let before = current(
-            route, stop.soft, vehicle, n, distances, times, service, ready, due, penalty, flags,
-        );
-        return look_along(
-            route, k, before, best, stop, vehicle, n, distances, times, service, ready, due,
-            penalty, flags,
-        );
+        let before = current(route, stop.soft, &given.fleet);
+        return look_along(route, k, before, best, stop, &given.fleet);
     }
     best
 }
@@ -136,99 +93,37 @@ fn look_part(
     k: usize,
     best: Option<Insertion>,
     stop: Move,
-    vehicle: Vehicle,
-    demand: &[i32],
-    n: usize,
-    distances: &[f64],
-    times: &[f64],
-    service: &[f64],
-    ready: &[f64],
-    due: &[f64],
-    penalty: &[f64],
-    flags: &[u8],
+    given: &Instance,
 ) -> Option<Insertion>
-    requires { Asked (problem n demand.now service.now ready.now due.now penalty.now flags.now distances.now times.now vehicle) stop × (at ≤ end) × (end ≤ length stops.now)
-        × Stops n (take (end - at) (drop at stops.now)) × (end - at < 256) }
-    ensures { result ≡ look_through (problem n demand.now service.now ready.now due.now penalty.now flags.now
-        distances.now times.now vehicle) stop.c stop.added stop.saved k (take (end - at) (drop at stops.now)) best }
+    requires { Asked (of_instance given.now) stop × (at ≤ end) × (end ≤ length stops.now) × Stops given.now.fleet.net.roads.size
+        (take (end - at) (drop at stops.now)) × (end - at < 256) }
+    ensures { result ≡ look_through (of_instance given.now) stop.c stop.added stop.saved k (take (end - at) (drop at stops.now)) best }
 {
-    look_through(
-        &stops[at..end],
-        k,
-        best,
-        stop,
-        vehicle,
-        demand,
-        n,
-        distances,
-        times,
-        service,
-        ready,
-        due,
-        penalty,
-        flags,
-    )
+    look_through(&stops[at..end], k, best, stop, given)
 }
 
 // The first least of the candidates that end the search, over the routes of a plan and then their positions.
-fn look_over(
-    lengths: &[u16],
-    stops: &[u16],
-    stop: Move,
-    vehicle: Vehicle,
-    demand: &[i32],
-    n: usize,
-    distances: &[f64],
-    times: &[f64],
-    service: &[f64],
-    ready: &[f64],
-    due: &[f64],
-    penalty: &[f64],
-    flags: &[u8],
-) -> Option<Insertion>
-    requires { Asked (problem n demand.now service.now ready.now due.now penalty.now flags.now distances.now times.now vehicle) stop × Room n lengths.now stops.now }
-    ensures { result ≡ look_over (problem n demand.now service.now ready.now due.now penalty.now flags.now
-        distances.now times.now vehicle) stop.c stop.added stop.saved (split lengths.now stops.now) }
+fn look_over(lengths: &[u16], stops: &[u16], stop: Move, given: &Instance) -> Option<Insertion>
+    requires { Asked (of_instance given.now) stop × Room given.now.fleet.net.roads.size lengths.now stops.now }
+    ensures { result ≡ look_over (of_instance given.now) stop.c stop.added stop.saved (split lengths.now stops.now) }
 {
     let mut best = None;
     let mut at = 0;
     for (k, length) in lengths.iter().enumerate() {
         let end = at + *length as usize;
-        best = look_part(
-            stops, at, end, k, best, stop, vehicle, demand, n, distances, times, service, ready,
-            due, penalty, flags,
-        );
+        best = look_part(stops, at, end, k, best, stop, given);
         at = end;
     }
     best
 }
 
 // The first candidate by cost that passes the check, where all before it and itself cost less than what is left to save.
-pub fn place(
-    lengths: &[u16],
-    stops: &[u16],
-    stop: Move,
-    vehicle: Vehicle,
-    demand: &[i32],
-    n: usize,
-    distances: &[f64],
-    times: &[f64],
-    service: &[f64],
-    ready: &[f64],
-    due: &[f64],
-    penalty: &[f64],
-    flags: &[u8],
-) -> Option<Insertion>
-    requires { Asked (problem n demand.now service.now ready.now due.now penalty.now flags.now distances.now times.now vehicle) stop × Room n lengths.now stops.now }
-    ensures { result ≡ first_passing (problem n demand.now service.now ready.now due.now penalty.now flags.now
-        distances.now times.now vehicle) (split lengths.now stops.now) stop.c stop.added stop.saved
-        (by_cost (candidates (problem n demand.now service.now ready.now due.now penalty.now flags.now
-        distances.now times.now vehicle) stop.c (split lengths.now stops.now))) }
+pub fn place(lengths: &[u16], stops: &[u16], stop: Move, given: &Instance) -> Option<Insertion>
+    requires { Asked (of_instance given.now) stop × Room given.now.fleet.net.roads.size lengths.now stops.now }
+    ensures { result ≡ first_passing (of_instance given.now) (split lengths.now stops.now) stop.c stop.added stop.saved
+        (by_cost (candidates (of_instance given.now) stop.c (split lengths.now stops.now))) }
 {
-    let found = look_over(
-        lengths, stops, stop, vehicle, demand, n, distances, times, service, ready, due, penalty,
-        flags,
-    )?;
+    let found = look_over(lengths, stops, stop, given)?;
     if stop.added + found.cost >= stop.saved {
         None
     } else {

@@ -2,7 +2,7 @@
 use Rattle.std.specs.Prelude.{ℕ, ◌<◌, ◌≡◌, List, [], length, ℤ, Float}
 use Rattle.reinsertion_worth.specs.laws.All.{All}
 use Rattle.reinsertion_worth.specs.models.declared.vehicle.Vehicle.{Vehicle}
-use Rattle.reinsertion_worth.specs.models.Problem.{Problem, problem, depot, Fit, Stops, Admitted}
+use Rattle.reinsertion_worth.specs.models.Problem.{Problem, problem, depot, Fit, Stops, Admitted, problem_of}
 use Rattle.reinsertion_worth.specs.plan.Plan.{Lent, split, total}
 use Rattle.reinsertion_worth.specs.route_load.Feasible.{constrained}
 use Rattle.reinsertion_candidates.specs.declared.Move.{Move}
@@ -13,7 +13,6 @@ pub record Asked (p : Problem) (m : Move) : Type 0 where
   pub admitted : Admitted p
   pub there : m.c < p.roads.size
   pub soft_told : m.soft ≡ soft p
-  pub needed_told : m.needed ≡ constrained p
 
 -- such a stop and a route, which has fewer stops than there can be places; no demand is read
 pub record Looked (p : Problem) (m : Move) (r : List ℕ) : Type 0 where
@@ -21,20 +20,18 @@ pub record Looked (p : Problem) (m : Move) (r : List ℕ) : Type 0 where
   pub home : depot p < p.roads.size
   pub there : m.c < p.roads.size
   pub soft_told : m.soft ≡ soft p
-  pub needed_told : m.needed ≡ constrained p
   pub stops : Stops p.roads.size r
   pub few : length r < 256
 
-module _ (n : ℕ) (demand : List ℤ) (service ready due penalty : List Float) (flags : List ℕ) (distances times : List Float) (vehicle : Vehicle) where
-  pub looked_of : (m : Move) (r : List ℕ) → Asked (problem n demand service ready due penalty flags distances times vehicle) m → Stops n r → length r < 256
-      → Looked (problem n [] service ready due penalty flags distances times vehicle) m r
+module _ (p : Problem) where
+  pub looked_of : (m : Move) (r : List ℕ) → Asked p m → Stops p.roads.size r → length r < 256
+      → Looked (problem_of [] p.places p.roads p.vehicle) m r
   looked_of m r a s f =
       record {
         fit = a.admitted.fit;
         home = a.admitted.depot_in;
         there = a.there;
         soft_told = a.soft_told;
-        needed_told = a.needed_told;
         stops = s;
         few = f;
       }

@@ -6,6 +6,7 @@ pub mod Place
 -- what the code asks of a stop, a route and a plan
 pub mod Asked
 -- crates below, passed on to those above
+pub use Rattle.reinsertion_worth.specs.evaluation as evaluation
 pub use Rattle.reinsertion_worth.specs.laws as laws
 pub use Rattle.reinsertion_worth.specs.floats as floats
 pub use Rattle.reinsertion_worth.specs.models as models

@@ -4,28 +4,27 @@
 
 ghost use Rattle.std.specs.Prelude.{◌≡◌, not, ◌&&◌, ◌||◌, [], ◌≤◌, length};
 ghost use Rattle.reinsertion_worth.specs.floats.Binary64.{is_finite};
-ghost use Rattle.reinsertion_worth.specs.models.Problem.{problem};
 ghost use Rattle.reinsertion_candidates.specs.Place.{comes_first, settles};
 ghost use Rattle.reinsertion_candidates.specs.Asked.{Looked};
+ghost use Rattle.reinsertion_worth.specs.evaluation.Given.{of_fleet};
 
 use reinsertion_worth::{total_less, trial_ok};
 
 // Of the crates below, passed on to those above.
 pub use reinsertion_worth::{
-    Counts, Insertion, LocalSearchNext, Pick, Reduction, Vehicle, constrained, current, cut,
-    has_room, has_soft_windows, insertion_worth, is_finite, next_pick, put_in,
-    route_cost_gain_floor, worth,
+    Counts, Fleet, Insertion, Instance, LocalSearchNext, Pick, Problem, Reduction, Vehicle,
+    constrained, current, cut, has_room, has_soft_windows, insertion_worth, is_finite, next_pick,
+    put_in, route_cost_gain_floor, worth,
 };
 
-// A stop c that is to be moved: what was added to the worth of the other routes so far, what is saved, whether a window is soft and whether
-// the check is needed.
+// A stop c that is to be moved: what was added to the worth of the other routes so far, what is saved, and whether a window is
+// soft.
 #[derive(Clone, Copy)]
 pub struct Move {
     pub c: usize,
     pub added: f64,
     pub saved: f64,
     pub soft: bool,
-    pub needed: bool,
 }
 
 // Whether a cost makes a candidate: with a soft window it is a number.
@@ -50,39 +49,9 @@ pub fn leads(cost: f64, soft: bool, best: Option<Insertion>) -> bool
 }
 
 // Whether a candidate ends the search: it would cost as much as is saved, or the route with the stop put in passes the check.
-pub fn settles(
-    route: &[u16],
-    pos: usize,
-    cost: f64,
-    stop: Move,
-    vehicle: Vehicle,
-    n: usize,
-    distances: &[f64],
-    times: &[f64],
-    service: &[f64],
-    ready: &[f64],
-    due: &[f64],
-    penalty: &[f64],
-    flags: &[u8],
-) -> bool
-    requires { Looked (problem n [] service.now ready.now due.now penalty.now flags.now distances.now times.now vehicle) stop route.now × (pos ≤ length route.now) }
-    ensures { result ≡ settles (problem n [] service.now ready.now due.now penalty.now flags.now
-        distances.now times.now vehicle) stop.c stop.added stop.saved route.now pos cost }
+pub fn settles(route: &[u16], pos: usize, cost: f64, stop: Move, fleet: &Fleet) -> bool
+    requires { Looked (of_fleet fleet.now) stop route.now × (pos ≤ length route.now) }
+    ensures { result ≡ settles (of_fleet fleet.now) stop.c stop.added stop.saved route.now pos cost }
 {
-    stop.added + cost >= stop.saved
-        || trial_ok(
-            route,
-            pos,
-            stop.c,
-            stop.needed,
-            vehicle,
-            n,
-            distances,
-            times,
-            service,
-            ready,
-            due,
-            penalty,
-            flags,
-        )
+    stop.added + cost >= stop.saved || trial_ok(route, pos, stop.c, fleet)
 }

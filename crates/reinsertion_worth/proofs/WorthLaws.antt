@@ -17,7 +17,6 @@ use Rattle.route_worth.specs.models.Customer.{Customers}
 use Rattle.route_worth.specs.models.Problem.{DistanceMatrix, Problem, Stops, depot}
 use Rattle.route_worth.specs.evaluation.Eval.{effective_cost}
 use Rattle.insertion_cost.specs.route_cost.Route.{route_distance, insertion_cost}
-use Rattle.insertion_cost.specs.LocalSearchReadLaws.{distance_any, insertion_any}
 use Rattle.reinsertion_worth.specs.Worth.{soft, worth, insertion_worth, current}
 
 -- ---- a route, with a soft window and without one
@@ -37,7 +36,7 @@ module _ (p : Problem) (r : List ℕ) (s : Bool) (e : s ≡ soft p) (x : Float) 
 pub current_hard : (p : Problem) (r : List ℕ) (s : Bool) → s ≡ soft p → s ≡ false → 0f ≡ current p r
 current_hard p r s e h = rw (← e, h)
 
-pub ruleset worth_laws = (distance_any, worth_soft, worth_hard, current_soft, current_hard)
+pub ruleset worth_laws = (worth_soft, worth_hard, current_soft, current_hard)
 
 -- ---- an insertion
 
@@ -51,7 +50,7 @@ module _ (p : Problem) (r : List ℕ) (pos c : ℕ) (s : Bool) (e : s ≡ soft p
   unfolding insertion_worth
   insertion_hard h g = rw (← e, h) g
 
-pub ruleset insertion_laws = (insertion_any, insertion_soft, insertion_hard)
+pub ruleset insertion_laws = (insertion_soft, insertion_hard)
 
 -- ---- the trial route
 

@@ -2,6 +2,7 @@
 -- the worth of a route and of an insertion
 pub mod Worth
 -- crates below, passed on to those above
+pub use Rattle.route_worth.specs.evaluation as evaluation
 pub use Rattle.route_worth.specs.laws as laws
 pub use Rattle.route_worth.specs.floats as floats
 pub use Rattle.route_worth.specs.models as models

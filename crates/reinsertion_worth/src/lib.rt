@@ -4,12 +4,12 @@
 
 ghost use Rattle.std.specs.Prelude.{◌≡◌, [], ◌+◌, ◌<◌, ◌≤◌, length, take};
 ghost use Rattle.route_worth.specs.laws.Edits.{insert_at};
-ghost use Rattle.route_worth.specs.models.Customer.{customers};
 ghost use Rattle.route_worth.specs.models.RouteLimits.{limits_of};
-ghost use Rattle.route_worth.specs.models.Problem.{matrix, problem, Fit, Stops};
+ghost use Rattle.route_worth.specs.models.Problem.{Stops};
 ghost use Rattle.route_worth.specs.evaluation.Check.{has_soft_windows};
 ghost use Rattle.route_worth.specs.evaluation.Eval.{effective_cost};
 ghost use Rattle.reinsertion_worth.specs.Worth.{worth, insertion_worth, current};
+ghost use Rattle.route_worth.specs.evaluation.Given.{of_fleet};
 
 use insertion_cost::{
     copy_part, insert_at, insertion_cost, route_cost_route_distance as route_distance,
@@ -21,68 +21,31 @@ pub use insertion_cost::{
     Counts, Insertion, LocalSearchNext, Pick, Reduction, constrained, cut, has_room, next_pick,
     put_in, route_cost_gain_floor, trial_ok,
 };
-pub use route_worth::{Vehicle, has_soft_windows, is_finite, total_less};
+pub use route_worth::{Fleet, Instance, Problem, Vehicle, has_soft_windows, is_finite, total_less};
 
 // What a route is worth.
-pub fn worth(
-    route: &[u16],
-    soft: bool,
-    vehicle: Vehicle,
-    n: usize,
-    distances: &[f64],
-    times: &[f64],
-    service: &[f64],
-    ready: &[f64],
-    due: &[f64],
-    penalty: &[f64],
-    flags: &[u8],
-) -> f64
-    requires fit { Fit (customers service.now ready.now due.now penalty.now flags.now) (matrix n distances.now times.now) }
-    requires depot_id_bound { (vehicle.depot_id < n) × Stops n route.now × (soft ≡ has_soft_windows flags.now) }
-    ensures { result ≡ worth (problem n [] service.now ready.now due.now penalty.now flags.now
-        distances.now times.now vehicle) route.now }
+pub fn worth(route: &[u16], soft: bool, fleet: &Fleet) -> f64
+    requires { Stops fleet.now.net.roads.size route.now × (soft ≡ has_soft_windows fleet.now.net.places.flags) }
+    ensures { result ≡ worth (of_fleet fleet.now) route.now }
 {
     if soft { // the lateness is weighed
         return effective_cost(
             route,
-            vehicle.depot_id,
-            RouteLimits::of(vehicle),
-            n,
-            distances,
-            times,
-            service,
-            ready,
-            due,
-            penalty,
-            flags,
+            fleet.vehicle.depot_id,
+            RouteLimits::of(fleet.vehicle),
+            &fleet.net,
         );
     }
-    route_distance(route, vehicle.depot_id, n, distances)
+    route_distance(route, fleet.vehicle.depot_id, &fleet.net.roads)
 }
 
 // What a route is worth where a window is soft, and else 0.0, which is not read.
-pub fn current(
-    route: &[u16],
-    soft: bool,
-    vehicle: Vehicle,
-    n: usize,
-    distances: &[f64],
-    times: &[f64],
-    service: &[f64],
-    ready: &[f64],
-    due: &[f64],
-    penalty: &[f64],
-    flags: &[u8],
-) -> f64
-    requires fit { Fit (customers service.now ready.now due.now penalty.now flags.now) (matrix n distances.now times.now) }
-    requires depot_id_bound { (vehicle.depot_id < n) × Stops n route.now × (soft ≡ has_soft_windows flags.now) }
-    ensures { result ≡ current (problem n [] service.now ready.now due.now penalty.now flags.now
-        distances.now times.now vehicle) route.now }
+pub fn current(route: &[u16], soft: bool, fleet: &Fleet) -> f64
+    requires { Stops fleet.now.net.roads.size route.now × (soft ≡ has_soft_windows fleet.now.net.places.flags) }
+    ensures { result ≡ current (of_fleet fleet.now) route.now }
 {
     if soft {
-        return worth(
-            route, soft, vehicle, n, distances, times, service, ready, due, penalty, flags,
-        );
+        return worth(route, soft, fleet);
     }
     0.0
 }
@@ -98,39 +61,18 @@ fn build_trial(trial: &mut [u16], route: &[u16], pos: usize, c: usize)
 }
 
 // What the route with c put in at pos costs, its lateness weighed.
-fn trial_cost(
-    route: &[u16],
-    pos: usize,
-    c: usize,
-    vehicle: Vehicle,
-    n: usize,
-    distances: &[f64],
-    times: &[f64],
-    service: &[f64],
-    ready: &[f64],
-    due: &[f64],
-    penalty: &[f64],
-    flags: &[u8],
-) -> f64
-    requires fit { Fit (customers service.now ready.now due.now penalty.now flags.now) (matrix n distances.now times.now) }
-    requires depot_id_bound { (vehicle.depot_id < n) × (c < n) × (pos ≤ length route.now) × Stops n route.now × (length route.now < 256) }
-    ensures { result ≡ effective_cost (customers service.now ready.now due.now penalty.now flags.now)
-        (matrix n distances.now times.now) vehicle.depot_id (limits_of vehicle) (insert_at pos c route.now) }
+fn trial_cost(route: &[u16], pos: usize, c: usize, fleet: &Fleet) -> f64
+    requires { (c < fleet.now.net.roads.size) × (pos ≤ length route.now) × Stops fleet.now.net.roads.size route.now × (length route.now < 256) }
+    ensures { result ≡ effective_cost fleet.now.net.places fleet.now.net.roads fleet.now.vehicle.depot_id (limits_of fleet.now.vehicle)
+        (insert_at pos c route.now) }
 {
     let mut trial = [0u16; 256];
     build_trial(&mut trial, route, pos, c);
     effective_cost(
         &trial[0..route.len() + 1],
-        vehicle.depot_id,
-        RouteLimits::of(vehicle),
-        n,
-        distances,
-        times,
-        service,
-        ready,
-        due,
-        penalty,
-        flags,
+        fleet.vehicle.depot_id,
+        RouteLimits::of(fleet.vehicle),
+        &fleet.net,
     )
 }
 
@@ -141,27 +83,15 @@ pub fn insertion_worth(
     c: usize,
     before: f64,
     soft: bool,
-    vehicle: Vehicle,
-    n: usize,
-    distances: &[f64],
-    times: &[f64],
-    service: &[f64],
-    ready: &[f64],
-    due: &[f64],
-    penalty: &[f64],
-    flags: &[u8],
+    fleet: &Fleet,
 ) -> f64
-    requires fit { Fit (customers service.now ready.now due.now penalty.now flags.now) (matrix n distances.now times.now) }
-    requires depot_id_bound { (vehicle.depot_id < n) × (c < n) × (pos ≤ length route.now) × Stops n route.now × (length route.now < 256)
-        × (soft ≡ has_soft_windows flags.now) × (before ≡ current (problem n [] service.now ready.now due.now penalty.now flags.now distances.now times.now vehicle) route.now) }
-    ensures { result ≡ insertion_worth (problem n [] service.now ready.now due.now penalty.now flags.now
-        distances.now times.now vehicle) route.now pos c }
+    requires { (c < fleet.now.net.roads.size) × (pos ≤ length route.now) × Stops fleet.now.net.roads.size route.now × (length route.now < 256)
+        × (soft ≡ has_soft_windows fleet.now.net.places.flags) × (before ≡ current (of_fleet fleet.now) route.now) }
+    ensures { result ≡ insertion_worth (of_fleet fleet.now) route.now pos c }
 {
     if soft {
-        let with = trial_cost(
-            route, pos, c, vehicle, n, distances, times, service, ready, due, penalty, flags,
-        );
+        let with = trial_cost(route, pos, c, fleet);
         return with - before;
     }
-    insertion_cost(route, pos, c, vehicle.depot_id, n, distances)
+    insertion_cost(route, pos, c, fleet.vehicle.depot_id, &fleet.net.roads)
 }

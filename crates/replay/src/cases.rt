@@ -2,176 +2,73 @@
 // ready, due, penalty, distances, times, lengths and stops, the number of calls, and the calls (crate replayed_calls). Floats stand by their bits, demand and
 // capacity by their two's complement of 32 bits. The vehicle is capacity, depot, fixed cost, cost per distance, and after a 0 or 1 that says whether it is
 // there the distance limit, the duration limit and the break (earliest, latest, duration); a value that is not there is 0.
+ghost use Rattle.replayed_calls.specs.tally.Tally.{Counted};
+
 use replayed_calls::{
-    FAULT, Vehicle, VehicleBreak, call_at, float_of, int_of, number_to, read_f64, read_i32,
-    read_u8, read_u16, stored_number as number,
+    Customers, DistanceMatrix, Numbers, Problem, Tally, Vehicle, VehicleBreak, call_at,
 };
 
-// A limit, and the position after it.
-#[derive(Clone, Copy)]
-struct ReadLimit {
-    limit: Option<f64>,
-    next: usize,
+fn limit_at(numbers: &mut Numbers) -> Option<Option<f64>> {
+    let given = numbers.read::<bool>()?;
+    let most = numbers.read::<f64>()?;
+    Some(if given { Some(most) } else { None })
 }
 
-// A break, and the position after it.
-#[derive(Clone, Copy)]
-struct ReadRest {
-    rest: Option<VehicleBreak>,
-    next: usize,
-}
-
-// A vehicle, and the position after it.
-#[derive(Clone, Copy)]
-struct ReadVehicle {
-    vehicle: Vehicle,
-    next: usize,
-}
-
-fn limit_at(text: &[u8], at: usize) -> ReadLimit {
-    let given = number_to(text, at, 1);
-    let most = number(text, given.next);
-    let next = most.next;
-    if given.value == 0 {
-        return ReadLimit { limit: None, next };
-    }
-    ReadLimit {
-        limit: Some(float_of(most.value)),
-        next,
-    }
-}
-
-fn rest_at(text: &[u8], at: usize) -> ReadRest {
-    let given = number_to(text, at, 1);
-    let earliest = number(text, given.next);
-    let latest = number(text, earliest.next);
-    let duration = number(text, latest.next);
-    let next = duration.next;
-    if given.value == 0 {
-        return ReadRest { rest: None, next };
-    }
-    ReadRest {
-        rest: Some(VehicleBreak {
-            earliest: float_of(earliest.value),
-            latest: float_of(latest.value),
-            duration: float_of(duration.value),
-        }),
-        next,
-    }
-}
-
-fn vehicle_at(text: &[u8], at: usize) -> ReadVehicle {
-    let capacity = number_to(text, at, 0xffff_ffff);
-    let depot = number(text, capacity.next);
-    let fixed = number(text, depot.next);
-    let per_distance = number(text, fixed.next);
-    let distance = limit_at(text, per_distance.next);
-    let duration = limit_at(text, distance.next);
-    let pause = rest_at(text, duration.next);
-    let max_distance = distance.limit;
-    let max_duration = duration.limit;
-    let rest = pause.rest;
-    let vehicle = Vehicle {
-        capacity: int_of(capacity.value),
-        depot_id: depot.value as usize,
-        fixed_cost: float_of(fixed.value),
-        cost_per_distance: float_of(per_distance.value),
-        max_distance,
-        max_duration,
-        rest,
+fn rest_at(numbers: &mut Numbers) -> Option<Option<VehicleBreak>> {
+    let given = numbers.read::<bool>()?;
+    let rest = VehicleBreak {
+        earliest: numbers.read()?,
+        latest: numbers.read()?,
+        duration: numbers.read()?,
     };
-    ReadVehicle {
-        vehicle,
-        next: pause.next,
-    }
+    Some(if given { Some(rest) } else { None })
 }
 
-// So many calls. The position after them, or a fault.
+fn vehicle_at(numbers: &mut Numbers) -> Option<Vehicle> {
+    Some(Vehicle {
+        capacity: numbers.read()?,
+        depot_id: numbers.read()?,
+        fixed_cost: numbers.read()?,
+        cost_per_distance: numbers.read()?,
+        max_distance: limit_at(numbers)?,
+        max_duration: limit_at(numbers)?,
+        rest: rest_at(numbers)?,
+    })
+}
+
+// So many calls.
 fn calls_at(
-    text: &[u8],
-    at: usize,
+    numbers: &mut Numbers,
     count: u64,
     lengths: &mut [u16],
     stops: &mut [u16],
-    asked: &mut [u64; 11],
-    agreed: &mut [u64; 11],
-    n: usize,
-    demand: &[i32],
-    service: &[f64],
-    ready: &[f64],
-    due: &[f64],
-    penalty: &[f64],
-    flags: &[u8],
-    distances: &[f64],
-    times: &[f64],
-    vehicle: Vehicle,
-) -> usize {
-    let mut next = at;
-    let mut left = count;
-    while left > 0 {
-        if next == FAULT {
-            return FAULT;
-        }
-        next = call_at(
-            text, next, lengths, stops, asked, agreed, n, demand, service, ready, due, penalty,
-            flags, distances, times, vehicle,
-        );
-        left -= 1;
+    tally: &mut Tally,
+    problem: &Problem,
+) -> Option<()>
+    ensures { Counted tally.old tally.new }
+{
+    for _ in 0..count {
+        call_at(numbers, lengths, stops, tally, problem)?;
     }
-    next
+    Some(())
 }
 
 // A plan and its calls.
-fn plan_at(
-    text: &[u8],
-    at: usize,
-    asked: &mut [u64; 11],
-    agreed: &mut [u64; 11],
-    n: usize,
-    demand: &[i32],
-    service: &[f64],
-    ready: &[f64],
-    due: &[f64],
-    penalty: &[f64],
-    flags: &[u8],
-    distances: &[f64],
-    times: &[f64],
-    vehicle: Vehicle,
-) -> usize {
-    let mut lengths = [0u16; 264];
-    let parts = read_u16(text, at, &mut lengths);
-    let routes = parts.count;
-    let mut stops = [0u16; 264];
-    let places = read_u16(text, parts.next, &mut stops);
-    let visits = places.count;
-    let count = number(text, places.next);
-    calls_at(
-        text,
-        count.next,
-        count.value,
-        &mut lengths[..routes],
-        &mut stops[..visits],
-        asked,
-        agreed,
-        n,
-        demand,
-        service,
-        ready,
-        due,
-        penalty,
-        flags,
-        distances,
-        times,
-        vehicle,
-    )
+fn plan_at(numbers: &mut Numbers, tally: &mut Tally, problem: &Problem) -> Option<()>
+    ensures { Counted tally.old tally.new }
+{
+    let mut lengths_room = [0u16; 264];
+    let lengths = numbers.fill(&mut lengths_room)?;
+    let mut stops_room = [0u16; 264];
+    let stops = numbers.fill(&mut stops_room)?;
+    let count = numbers.next()?;
+    calls_at(numbers, count, lengths, stops, tally, problem)
 }
 
 // The matrices, then the plan and its calls.
 fn matrices_at(
-    text: &[u8],
-    at: usize,
-    asked: &mut [u64; 11],
-    agreed: &mut [u64; 11],
+    numbers: &mut Numbers,
+    tally: &mut Tally,
     n: usize,
     vehicle: Vehicle,
     demand: &[i32],
@@ -180,91 +77,68 @@ fn matrices_at(
     ready: &[f64],
     due: &[f64],
     penalty: &[f64],
-) -> usize {
-    let mut distances = [0.0; 160];
-    let ways = read_f64(text, at, &mut distances);
-    let d = ways.count;
-    let mut times = [0.0; 160];
-    let drives = read_f64(text, ways.next, &mut times);
-    let t = drives.count;
-    plan_at(
-        text,
-        drives.next,
-        asked,
-        agreed,
-        n,
-        demand,
+) -> Option<()>
+    ensures { Counted tally.old tally.new }
+{
+    let mut distances_room = [0.0; 160];
+    let distances = numbers.fill(&mut distances_room)?;
+    let mut times_room = [0.0; 160];
+    let times = numbers.fill(&mut times_room)?;
+    let places = Customers {
         service,
         ready,
         due,
         penalty,
         flags,
-        &distances[..d],
-        &times[..t],
+    };
+    let roads = DistanceMatrix {
+        size: n,
+        distances,
+        times,
+    };
+    let problem = Problem {
+        demand,
+        places: &places,
+        roads: &roads,
         vehicle,
-    )
+    };
+    plan_at(numbers, tally, &problem)
 }
 
 // Windows and penalties, then the rest.
 fn windows_at(
-    text: &[u8],
-    at: usize,
-    asked: &mut [u64; 11],
-    agreed: &mut [u64; 11],
+    numbers: &mut Numbers,
+    tally: &mut Tally,
     n: usize,
     vehicle: Vehicle,
     demand: &[i32],
     flags: &[u8],
     service: &[f64],
-) -> usize {
-    let mut ready = [0.0; 16];
-    let opens = read_f64(text, at, &mut ready);
-    let r = opens.count;
-    let mut due = [0.0; 16];
-    let closes = read_f64(text, opens.next, &mut due);
-    let d = closes.count;
-    let mut penalty = [0.0; 16];
-    let prices = read_f64(text, closes.next, &mut penalty);
-    let p = prices.count;
+) -> Option<()>
+    ensures { Counted tally.old tally.new }
+{
+    let mut ready_room = [0.0; 16];
+    let ready = numbers.fill(&mut ready_room)?;
+    let mut due_room = [0.0; 16];
+    let due = numbers.fill(&mut due_room)?;
+    let mut penalty_room = [0.0; 16];
+    let penalty = numbers.fill(&mut penalty_room)?;
     matrices_at(
-        text,
-        prices.next,
-        asked,
-        agreed,
-        n,
-        vehicle,
-        demand,
-        flags,
-        service,
-        &ready[..r],
-        &due[..d],
-        &penalty[..p],
+        numbers, tally, n, vehicle, demand, flags, service, ready, due, penalty,
     )
 }
 
-// One case. The position after it, or a fault.
-pub fn case_at(text: &[u8], at: usize, asked: &mut [u64; 11], agreed: &mut [u64; 11]) -> usize {
-    let places = number(text, at);
-    let read = vehicle_at(text, places.next);
-    let vehicle = read.vehicle;
-    let mut demand = [0i32; 16];
-    let loads = read_i32(text, read.next, &mut demand);
-    let d = loads.count;
-    let mut flags = [0u8; 16];
-    let marks = read_u8(text, loads.next, &mut flags);
-    let f = marks.count;
-    let mut service = [0.0; 16];
-    let waits = read_f64(text, marks.next, &mut service);
-    let s = waits.count;
-    windows_at(
-        text,
-        waits.next,
-        asked,
-        agreed,
-        places.value as usize,
-        vehicle,
-        &demand[..d],
-        &flags[..f],
-        &service[..s],
-    )
+// One case, whose calls are counted as far as they are of the form.
+pub fn case_at(numbers: &mut Numbers, tally: &mut Tally) -> Option<()>
+    ensures { Counted tally.old tally.new }
+{
+    let n = numbers.read::<usize>()?;
+    let vehicle = vehicle_at(numbers)?;
+    let mut demand_room = [0i32; 16];
+    let demand = numbers.fill(&mut demand_room)?;
+    let mut flags_room = [0u8; 16];
+    let flags = numbers.fill(&mut flags_room)?;
+    let mut service_room = [0.0; 16];
+    let service = numbers.fill(&mut service_room)?;
+    windows_at(numbers, tally, n, vehicle, demand, flags, service)
 }

@@ -8,27 +8,25 @@ mod cases;
 
 use cases::case_at;
 use replayed_calls::{
-    FAULT, at_end, print_fault, print_misfit, print_tally, print_too_long, stored_number as number,
+    Customers, DistanceMatrix, Numbers, Problem, Tally, print_fault, print_misfit, print_too_long,
 };
 
 // Replays the cases of a text.
 fn replay(text: &[u8]) {
-    let mut asked = [0u64; 11];
-    let mut agreed = [0u64; 11];
-    let count = number(text, 0);
-    let cases = count.value;
-    let mut next = count.next;
-    let mut done: u64 = 0;
-    while done < cases {
-        next = case_at(text, next, &mut asked, &mut agreed);
-        done += 1;
-        if next == FAULT {
-            print_fault(done);
+    let mut tally = Tally::new();
+    let mut numbers = Numbers { rest: text };
+    let Some(cases) = numbers.next() else {
+        print_misfit();
+        return;
+    };
+    for done in 0..cases {
+        if case_at(&mut numbers, &mut tally).is_none() {
+            print_fault(done + 1);
             return;
         }
     }
-    if at_end(text, next) {
-        print_tally(&asked, &agreed);
+    if numbers.at_end() {
+        tally.print();
     } else {
         print_misfit();
     }

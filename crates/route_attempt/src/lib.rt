@@ -2,7 +2,6 @@
 #![tactic(auto)]
 
 ghost use Rattle.std.specs.Prelude.{◌≡◌, ◌<◌, ◌≤◌, length};
-ghost use Rattle.route_without.specs.models.Problem.{problem};
 ghost use Rattle.plan_copy.specs.plan.Plan.{split};
 ghost use Rattle.route_without.specs.route_cost.Route.{cost};
 ghost use Rattle.route_without.specs.pool_cost.Attempt.{attempt};
@@ -11,9 +10,10 @@ ghost use Rattle.route_without.specs.local_search.Search.{but_last};
 ghost use Rattle.route_without.specs.pool_attempt.Judged.{tried};
 ghost use Rattle.route_without.specs.Attempting.{Attempting};
 ghost use Rattle.route_attempt.specs.Leaves.{Leaves};
+ghost use Rattle.route_without.specs.evaluation.Given.{of_instance};
 
 use plan_copy::{restore, save};
-use route_without::{Counts, Vehicle, try_without};
+use route_without::{Counts, Instance, Vehicle, try_without};
 
 // Of the crates below, passed on to those above.
 pub use plan_copy::drop_empty;
@@ -31,23 +31,12 @@ pub fn attempt(
     limit: usize,
     clock: u64,
     counted: Counts,
-    needed: bool,
-    vehicle: Vehicle,
-    demand: &[i32],
-    n: usize,
-    distances: &[f64],
-    times: &[f64],
-    service: &[f64],
-    ready: &[f64],
-    due: &[f64],
-    penalty: &[f64],
-    flags: &[u8],
+    given: &Instance,
 ) -> Result<Counts, Counts>
-    requires attempting { Attempting (problem n demand.now service.now ready.now due.now penalty.now flags.now distances.now times.now vehicle) tape.now needed limit
-        lengths.old stops.old work.old cells.old counted }
-    requires r_in_bounds { (r < length lengths.old) × (before ≡ cost (problem n demand.now service.now ready.now due.now penalty.now flags.now distances.now times.now vehicle) (split lengths.old stops.old)) × (length lengths.old ≤ 256) × (767 ≤ length work.old) }
-    ensures plan { tried result (split (but_last lengths.new) stops.new) ≡ attempt (allowance limit clock tape.now) (problem n demand.now service.now ready.now due.now penalty.now flags.now
-        distances.now times.now vehicle)
+    requires attempting { Attempting (of_instance given.now) tape.now given.now.fleet.needed limit lengths.old stops.old work.old cells.old counted }
+    requires r_in_bounds { (r < length lengths.old) × (before ≡ cost (of_instance given.now) (split lengths.old stops.old))
+        × (length lengths.old ≤ 256) × (767 ≤ length work.old) }
+    ensures plan { tried result (split (but_last lengths.new) stops.new) ≡ attempt (allowance limit clock tape.now) (of_instance given.now)
         (split lengths.old stops.old) r counted }
     ensures held { Leaves result lengths.old stops.old lengths.new stops.new }
 {
@@ -63,17 +52,7 @@ pub fn attempt(
         limit,
         clock,
         counted,
-        needed,
-        vehicle,
-        demand,
-        n,
-        distances,
-        times,
-        service,
-        ready,
-        due,
-        penalty,
-        flags,
+        given,
     );
     if let Err(counts) = tried {
         restore(lengths, stops, work);

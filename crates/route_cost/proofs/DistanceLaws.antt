@@ -1,5 +1,5 @@
 -- Laws of specs/Route, each from the facts that the code has where it needs it. Assumes nothing.
-use Prim.Native.Nat.{ℕ, ◌+◌, ◌-◌, ◌*◌, ◌≤◌, ◌<◌}
+use Prim.Native.Nat.{ℕ, suc, ◌+◌, ◌*◌, ◌≤◌, ◌<◌}
 use native.Mathlib.Numerals.{add-one}
 use native.Mathlib.Omega.{arith}
 use mathlib.Core.Path.{◌≡◌, refl, sym, ◌∙◌}
@@ -7,59 +7,49 @@ use mathlib.Core.List.{List, [], ◌∷◌}
 use lib.ListN.{length, get_or, drop, drop_of_length-le}
 use lib.Seq.{drop-cons}
 use lib.Ieee.{Float}
-use mir.Syntax.{w64}
-use mir.Val.{Fits}
 use borrow.Author.Rules.{rules}
 use Rattle.evaluation_laws.specs.floats.Binary64.{◌⊕◌, 0f}
-use Rattle.evaluation_laws.specs.models.Problem.{DistanceMatrix, matrix, Stops}
-use Rattle.evaluation_laws.specs.distance.Matrix.{get, cell}
+use Rattle.evaluation_laws.specs.models.Problem.{DistanceMatrix, Stops}
+use Rattle.evaluation_laws.specs.distance.Matrix.{get}
 use Rattle.route_cost.specs.Route.{legs, route_distance}
 
--- ---- a route: what has come so far, and the legs that are left
+-- ---- a route of a first stop and some more: what has come so far of these, and the legs that are left
 
-pub record Going (n : ℕ) (distances : List Float) (depot : ℕ) (route : List ℕ) (dist : Float) (prev i : ℕ) : Type 0 where
-  pub few : n ≤ 256
-  pub cells : length distances ≡ n * n
-  pub ends : depot < n
-  pub places : Stops n route
-  pub there : prev < n
-  pub same : route_distance (matrix n distances []) depot route ≡ legs (matrix n distances []) depot dist prev (drop i route)
+pub record Going (m : DistanceMatrix) (depot : ℕ) (route rest : List ℕ) (dist : Float) (prev i : ℕ) : Type 0 where
+  pub few : m.size ≤ 256
+  pub cells : length m.distances ≡ m.size * m.size
+  pub ends : depot < m.size
+  pub places : (k : ℕ) → k < length rest → get_or rest k 0 < m.size
+  pub there : prev < m.size
+  pub same : route_distance m depot route ≡ legs m depot dist prev (drop i rest)
 
-module _ (m : DistanceMatrix) (depot : ℕ) where
-  first_leg : (r : List ℕ) → 0 < length r → route_distance m depot r ≡ legs m depot (get m depot (get_or r 0 0)) (get_or r 0 0) (drop 1 r)
+module _ (m : DistanceMatrix) (depot : ℕ) (route : List ℕ) where
+  pub no_stops : length route ≡ 0 → 0f ≡ route_distance m depot route
   unfolding route_distance
-  first_leg [] h = absurd (omega arith)
-  first_leg (c ∷ cs) h = refl
+  no_stops e = go route e
+    where
+      go : (r : List ℕ) → length r ≡ 0 → 0f ≡ route_distance m depot r
+      go [] e = refl
+      go (c ∷ cs) e = absurd (omega arith)
 
-  no_legs : (r : List ℕ) → length r ≡ 0 → 0f ≡ route_distance m depot r
-  unfolding route_distance
-  no_legs [] e = refl
-  no_legs (c ∷ cs) e = absurd (omega arith)
+  module _ (first : ℕ) (rest : List ℕ) (e : route ≡ first ∷ rest) (s : Stops m.size route) where
+    stop_there : (k : ℕ) → k < length (first ∷ rest) → get_or (first ∷ rest) k 0 < m.size
+    stop_there = rw e at s.each
 
-module _ (n : ℕ) (distances : List Float) (depot : ℕ) (route : List ℕ) where
-  pub no_stops : length route ≡ 0 → 0f ≡ route_distance (matrix n distances []) depot route
-  no_stops e = no_legs (matrix n distances []) depot route e
+    pub first_there : first < m.size
+    first_there = stop_there 0 (omega arith)
 
-  pub stop_there : (k : ℕ) → Stops n route → k < length route → get_or route k 0 < n
-  stop_there k s h = s.each k h
+    pub going_start : (x : Float) → m.size ≤ 256 → length m.distances ≡ m.size * m.size → depot < m.size → x ≡ get m depot first
+        → Going m depot route rest x first 0
+    unfolding route_distance
+    going_start x few cells h ex =
+        record { few = few; cells = cells; ends = h; places = λ k i. stop_there (suc k) (omega arith); there = first_there; same = rw (e, ex) refl }
 
-  pub stop_fits : (k : ℕ) → n ≤ 256 → Stops n route → k < length route → Fits w64 (get_or route k 0)
-  stop_fits k few s h = record { fits = omega (arith, s.each k h) }
+  module _ (rest : List ℕ) (dist x : Float) (prev i : ℕ) (g : Going m depot route rest dist prev i) where
+    pub next_there : i < length rest → get_or rest i 0 < m.size
+    next_there h = g.places i h
 
-  pub first_fits : n ≤ 256 → Stops n route → (length route ≡ 0 → ⊥) → Fits w64 (get_or route 0 0)
-  first_fits few s e = let i : 0 < length route = omega arith in stop_fits 0 few s i
-
-  pub first_there : Stops n route → (length route ≡ 0 → ⊥) → get_or route 0 0 < n
-  first_there s e = s.each 0 (omega arith)
-
-  pub going_start : (x : Float) → n ≤ 256 → length distances ≡ n * n → depot < n → Stops n route → (length route ≡ 0 → ⊥)
-      → x ≡ cell distances n depot (get_or route 0 0) → Going n distances depot route x (get_or route 0 0) 1
-  going_start x few cells h s e ex =
-      let i : 0 < length route = omega arith in
-      record { few = few; cells = cells; ends = h; places = s; there = s.each 0 i; same = rw ex (first_leg (matrix n distances []) depot route i) }
-
-  module _ (dist x : Float) (prev i : ℕ) (g : Going n distances depot route dist prev i) where
-    pub going_on : i < length route → x ≡ cell distances n prev (get_or route i 0) → Going n distances depot route (dist ⊕ x) (get_or route i 0) (i + 1)
+    pub going_on : i < length rest → x ≡ get m prev (get_or rest i 0) → Going m depot route rest (dist ⊕ x) (get_or rest i 0) (i + 1)
     unfolding legs
     going_on h e =
         record {
@@ -67,12 +57,12 @@ module _ (n : ℕ) (distances : List Float) (depot : ℕ) (route : List ℕ) whe
           cells = g.cells;
           ends = g.ends;
           places = g.places;
-          there = g.places.each i h;
-          same = g.same ∙ rw (drop-cons route i 0 h, add-one i, e);
+          there = g.places i h;
+          same = g.same ∙ rw (drop-cons rest i 0 h, add-one i, e);
         }
 
-    pub going_home : length route ≤ i → x ≡ cell distances n prev depot → dist ⊕ x ≡ route_distance (matrix n distances []) depot route
+    pub going_home : length rest ≤ i → x ≡ get m prev depot → dist ⊕ x ≡ route_distance m depot route
     unfolding legs
-    going_home h e = sym (g.same ∙ rw (drop_of_length-le route h, e))
+    going_home h e = sym (g.same ∙ rw (drop_of_length-le rest h, e))
 
-pub ruleset going_laws = (rules, no_stops, stop_there, stop_fits, first_fits, first_there, going_start, going_on, going_home)
+pub ruleset going_laws = (rules, no_stops, first_there, going_start, next_there, going_on, going_home)

@@ -10,9 +10,10 @@ use evaluation_laws::scale;
 
 // Of the crates below, passed on to those above.
 pub use evaluation_laws::{
-    Customer, RouteEval, RouteLimits, TimeWindow, Vehicle, abs, break_schedule_schedule,
-    customer_at, evaluation_check, evaluation_route_feasible, get, has_soft_windows, infinity, max,
-    min, route_checks_needed, travel_time, trial_feasible,
+    Customer, Customers, DistanceMatrix, Fleet, Instance, Network, Problem, RouteEval, RouteLimits,
+    TimeWindow, Vehicle, abs, break_schedule_schedule, customer_at, evaluation_check,
+    evaluation_route_feasible, get, has_soft_windows, infinity, max, min, route_checks_needed,
+    travel_time, trial_feasible,
 };
 pub use plan::copy_part;
 
@@ -25,24 +26,22 @@ pub struct Insertion {
 }
 
 // The distance of the route depot, stops, depot; 0 where there are no stops.
-pub fn route_distance(route: &[u16], depot: usize, n: usize, distances: &[f64]) -> f64
-    requires n_bound { (n ≤ 256) × (length distances.now ≡ n * n) }
-    requires depot_lt_n { (depot < n) × Stops n route.now }
-    ensures { result ≡ route_distance (matrix n distances.now []) depot route.now }
+#[tactic(auto, using(crate::proofs::DistanceLaws::going_laws))]
+pub fn route_distance(route: &[u16], depot: usize, roads: &DistanceMatrix) -> f64
+    requires n_bound { (roads.now.size ≤ 256) × (length roads.now.distances ≡ roads.now.size * roads.now.size) }
+    requires depot_lt_n { (depot < roads.now.size) × Stops roads.now.size route.now }
+    ensures { result ≡ route_distance roads.now depot route.now }
 {
-    if route.len() == 0 {
+    let Some((first, rest)) = route.split_first() else {
         return 0.0;
+    };
+    let mut prev = *first as usize;
+    let mut dist = get(roads, depot, prev);
+    for c in rest {
+        dist = dist + get(roads, prev, *c as usize);
+        prev = *c as usize;
     }
-    let mut prev = route[0] as usize;
-    let mut dist = get(distances, n, depot, prev);
-    let mut i = 1;
-    while i < route.len() {
-        let c = route[i] as usize;
-        dist = dist + get(distances, n, prev, c);
-        prev = c;
-        i += 1;
-    }
-    dist + get(distances, n, prev, depot)
+    dist + get(roads, prev, depot)
 }
 
 // The least gain that counts as one. It reads the distances alone.

@@ -2,14 +2,16 @@
 #![tactic(auto)]
 
 ghost use Rattle.std.specs.Prelude.{◌≡◌, ◌<◌, ◌≤◌, length};
-ghost use Rattle.ejection_positions.specs.models.Problem.{problem};
 ghost use Rattle.ejection_positions.specs.ejection.Eject.{try_out, try_one, try_two_from, try_two};
 ghost use Rattle.ejection_positions.specs.ejection.Asked.{Sought};
+ghost use Rattle.ejection_positions.specs.evaluation.Given.{of_instance};
 
 use ejection_positions::{Out, fails_more, failure_sum, keep, try_left};
 
 // Of the crates below, passed on to those above.
-pub use ejection_positions::{Ejection, Vehicle, checked, feasible, within_capacity};
+pub use ejection_positions::{
+    Ejection, Fleet, Instance, Vehicle, checked, feasible, within_capacity,
+};
 
 // The stops at i and j leave route k: first their failures alone, then what is kept.
 fn try_out(
@@ -22,22 +24,11 @@ fn try_out(
     j: usize,
     c: usize,
     best: Option<Ejection>,
-    needed: bool,
-    vehicle: Vehicle,
-    demand: &[i32],
-    n: usize,
-    distances: &[f64],
-    times: &[f64],
-    service: &[f64],
-    ready: &[f64],
-    due: &[f64],
-    penalty: &[f64],
-    flags: &[u8],
+    given: &Instance,
 ) -> Option<Ejection>
-    requires sought { Sought (problem n demand.now service.now ready.now due.now penalty.now flags.now distances.now times.now vehicle) failures.now route.now c needed }
+    requires sought { Sought (of_instance given.now) failures.now route.now c given.now.fleet.needed }
     requires route_in_bounds { (length route.now ≤ length work.old) × (512 ≤ length cells.old) × (i ≤ j) × (j < length route.now) }
-    ensures { result ≡ try_out (problem n demand.now service.now ready.now due.now penalty.now flags.now
-        distances.now times.now vehicle) c failures.now k route.now i j best }
+    ensures { result ≡ try_out (of_instance given.now) c failures.now k route.now i j best }
 {
     let failed = failure_sum(failures, route, i, j);
     if fails_more(failed, best) {
@@ -50,24 +41,7 @@ fn try_out(
         first: i,
         second: j,
     };
-    try_left(
-        cells,
-        &work[0..m],
-        out,
-        c,
-        best,
-        needed,
-        vehicle,
-        demand,
-        n,
-        distances,
-        times,
-        service,
-        ready,
-        due,
-        penalty,
-        flags,
-    )
+    try_left(cells, &work[0..m], out, c, best, given)
 }
 
 // One stop leaves route k.
@@ -79,29 +53,15 @@ pub fn try_one(
     k: usize,
     c: usize,
     best: Option<Ejection>,
-    needed: bool,
-    vehicle: Vehicle,
-    demand: &[i32],
-    n: usize,
-    distances: &[f64],
-    times: &[f64],
-    service: &[f64],
-    ready: &[f64],
-    due: &[f64],
-    penalty: &[f64],
-    flags: &[u8],
+    given: &Instance,
 ) -> Option<Ejection>
-    requires sought { Sought (problem n demand.now service.now ready.now due.now penalty.now flags.now distances.now times.now vehicle) failures.now route.now c needed }
+    requires sought { Sought (of_instance given.now) failures.now route.now c given.now.fleet.needed }
     requires route_in_bounds { (length route.now ≤ length work.old) × (512 ≤ length cells.old) }
-    ensures { result ≡ try_one (problem n demand.now service.now ready.now due.now penalty.now flags.now
-        distances.now times.now vehicle) c failures.now k route.now best }
+    ensures { result ≡ try_one (of_instance given.now) c failures.now k route.now best }
 {
     let mut found = best;
     for i in 0..route.len() {
-        found = try_out(
-            work, cells, failures, route, k, i, i, c, found, needed, vehicle, demand, n, distances,
-            times, service, ready, due, penalty, flags,
-        );
+        found = try_out(work, cells, failures, route, k, i, i, c, found, given);
     }
     found
 }
@@ -116,22 +76,11 @@ fn try_two_from(
     i: usize,
     c: usize,
     best: Option<Ejection>,
-    needed: bool,
-    vehicle: Vehicle,
-    demand: &[i32],
-    n: usize,
-    distances: &[f64],
-    times: &[f64],
-    service: &[f64],
-    ready: &[f64],
-    due: &[f64],
-    penalty: &[f64],
-    flags: &[u8],
+    given: &Instance,
 ) -> Option<Ejection>
-    requires sought { Sought (problem n demand.now service.now ready.now due.now penalty.now flags.now distances.now times.now vehicle) failures.now route.now c needed }
+    requires sought { Sought (of_instance given.now) failures.now route.now c given.now.fleet.needed }
     requires route_in_bounds { (length route.now ≤ length work.old) × (512 ≤ length cells.old) × (i < length route.now) }
-    ensures { result ≡ try_two_from (problem n demand.now service.now ready.now due.now penalty.now flags.now
-        distances.now times.now vehicle) c failures.now k route.now i best }
+    ensures { result ≡ try_two_from (of_instance given.now) c failures.now k route.now i best }
 {
     let mut found = best;
     for d in 0..route.len() - (i + 1) {
@@ -145,17 +94,7 @@ fn try_two_from(
             i + 1 + d,
             c,
             found,
-            needed,
-            vehicle,
-            demand,
-            n,
-            distances,
-            times,
-            service,
-            ready,
-            due,
-            penalty,
-            flags,
+            given,
         );
     }
     found
@@ -170,29 +109,15 @@ pub fn try_two(
     k: usize,
     c: usize,
     best: Option<Ejection>,
-    needed: bool,
-    vehicle: Vehicle,
-    demand: &[i32],
-    n: usize,
-    distances: &[f64],
-    times: &[f64],
-    service: &[f64],
-    ready: &[f64],
-    due: &[f64],
-    penalty: &[f64],
-    flags: &[u8],
+    given: &Instance,
 ) -> Option<Ejection>
-    requires sought { Sought (problem n demand.now service.now ready.now due.now penalty.now flags.now distances.now times.now vehicle) failures.now route.now c needed }
+    requires sought { Sought (of_instance given.now) failures.now route.now c given.now.fleet.needed }
     requires route_in_bounds { (length route.now ≤ length work.old) × (512 ≤ length cells.old) }
-    ensures { result ≡ try_two (problem n demand.now service.now ready.now due.now penalty.now flags.now
-        distances.now times.now vehicle) c failures.now k route.now best }
+    ensures { result ≡ try_two (of_instance given.now) c failures.now k route.now best }
 {
     let mut found = best;
     for i in 0..route.len() {
-        found = try_two_from(
-            work, cells, failures, route, k, i, c, found, needed, vehicle, demand, n, distances,
-            times, service, ready, due, penalty, flags,
-        );
+        found = try_two_from(work, cells, failures, route, k, i, c, found, given);
     }
     found
 }

@@ -9,7 +9,7 @@ use lib.IntN.{ℤ}
 use lib.Ieee.{Float}
 use Rattle.insertion.specs.laws.Loops.{loop, loop_same}
 use Rattle.insertion.specs.models.declared.vehicle.Vehicle.{Vehicle}
-use Rattle.insertion.specs.models.Problem.{Problem, problem, of_demand}
+use Rattle.insertion.specs.models.Problem.{Problem, of_demand, problem_of}
 use Rattle.insertion.specs.route_cost.declared.Insertion.{Insertion}
 use Rattle.insertion.specs.route_load.Feasible.{has_room}
 use Rattle.insertion.specs.LocalSearchReadLaws.{room_any}
@@ -31,16 +31,12 @@ positions_read p c k r best w cells h e =
     e
 
 -- there is no room; the departures miss a window; the positions are tried
-module _ (n : ℕ) (demand : List ℤ) (service ready due penalty : List Float) (flags : List ℕ) (distances times : List Float) (vehicle : Vehicle)
-    (c k : ℕ) (r : List ℕ) (best : Option Insertion) (v : Bool) (ev : v ≡ has_room (of_demand demand vehicle) r c) where
-  abbrev p : Problem
-  p = problem n demand service ready due penalty flags distances times vehicle
-
+module _ (p : Problem) (c k : ℕ) (r : List ℕ) (best : Option Insertion) (v : Bool) (ev : v ≡ has_room (of_demand p.demand p.vehicle) r c) where
   abbrev unladen : Problem
-  unladen = problem n [] service ready due penalty flags distances times vehicle
+  unladen = problem_of [] p.places p.roads p.vehicle
 
   room : v ≡ has_room p r c
-  room = room_any n demand service ready due penalty flags distances times vehicle r c v ev
+  room = room_any p r c v ev
 
   pub route_full : v ≡ false → best ≡ try_route p c k r best
   unfolding try_route
@@ -48,7 +44,7 @@ module _ (n : ℕ) (demand : List ℤ) (service ready due penalty : List Float) 
 
   module _ (h : v ≡ true) (w : Bool) (cells : List Float) (q : Prepared unladen r w cells) where
     prepared : Prepared p r w cells
-    prepared = prepared_any n demand service ready due penalty flags distances times vehicle r w cells q
+    prepared = prepared_any p r w cells q
 
     pub route_missed : w ≡ false → best ≡ try_route p c k r best
     unfolding try_route try_positions
@@ -58,7 +54,7 @@ module _ (n : ℕ) (demand : List ℤ) (service ready due penalty : List Float) 
     turn : (pos : ℕ) (b : Option Insertion) → pass_position unladen c k r (held (length r) cells) pos b ≡ try_position p c k r (held (length r) cells) pos b
     unfolding pass_position
     turn pos b =
-        rw (may_pass_any n demand service ready due penalty flags distances times vehicle r (held (length r) cells) pos c)
+        rw (may_pass_any p r (held (length r) cells) pos c)
         (pass_position_room p c k r (held (length r) cells) pos b (sym room ∙ h))
 
     pub route_tried : (x : Option Insertion) → w ≡ true → x ≡ loop (suc (length r)) (pass_position unladen c k r (held (length r) cells)) best

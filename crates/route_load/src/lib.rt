@@ -7,10 +7,10 @@ ghost use Rattle.route_load.specs.Feasible.{demand_at, load, fits, has_room};
 
 // Of the crates below, passed on to those above.
 pub use route_cost::{
-    Customer, Insertion, RouteEval, RouteLimits, TimeWindow, Vehicle, abs, break_schedule_schedule,
-    customer_at, evaluation_check, evaluation_route_feasible, gain_floor as route_cost_gain_floor,
-    get, infinity, max, min, route_checks_needed, route_distance as route_cost_route_distance,
-    travel_time, trial_feasible,
+    Customer, DistanceMatrix, Fleet, Insertion, Instance, Network, Problem, RouteEval, RouteLimits,
+    TimeWindow, Vehicle, abs, break_schedule_schedule, customer_at, evaluation_check,
+    evaluation_route_feasible, gain_floor as route_cost_gain_floor, get, infinity, max, min,
+    route_checks_needed, route_distance as route_cost_route_distance, travel_time, trial_feasible,
 };
 
 // The sum of the demands of a route.

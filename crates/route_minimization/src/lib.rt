@@ -2,17 +2,17 @@
 #![tactic(auto)]
 
 ghost use Rattle.std.specs.Prelude.{length};
-ghost use Rattle.minimization_search.specs.models.Problem.{problem};
 ghost use Rattle.minimization_search.specs.plan.Plan.{split};
 ghost use Rattle.minimization_search.specs.local_search.Search.{Answers};
 ghost use Rattle.minimization_search.specs.minimization.Minimize.{minimize_routes};
 ghost use Rattle.minimization_search.specs.ejection_pool.Running.{allowance};
 ghost use Rattle.minimization_search.specs.Minimizing.{Searching};
+ghost use Rattle.minimization_search.specs.evaluation.Given.{of_instance};
 
-use minimization_search::{Counts, Reduction, constrained, has_soft_windows, search};
+use minimization_search::{Counts, Instance, Reduction, has_soft_windows, search};
 
 // Of the crates below, passed on to those above.
-pub use minimization_search::{Vehicle, rounds};
+pub use minimization_search::{Customers, DistanceMatrix, Problem, Vehicle, rounds};
 
 // `minimize_routes`: with a soft window the plan comes back as given, otherwise with as many routes fewer as the attempts find.
 pub fn minimize_routes(
@@ -23,32 +23,17 @@ pub fn minimize_routes(
     tape: &[u64],
     limit: usize,
     clock: u64,
-    vehicle: Vehicle,
-    demand: &[i32],
-    n: usize,
-    distances: &[f64],
-    times: &[f64],
-    service: &[f64],
-    ready: &[f64],
-    due: &[f64],
-    penalty: &[f64],
-    flags: &[u8],
+    given: &Instance,
 ) -> Reduction
-    requires { Searching (problem n demand.now service.now ready.now due.now penalty.now flags.now distances.now times.now vehicle) tape.now limit
-        lengths.old stops.old work.old cells.old }
-    ensures { Answers (minimize_routes (allowance limit clock tape.now) (problem n demand.now service.now ready.now due.now penalty.now flags.now
-        distances.now times.now vehicle)
-        (split lengths.old stops.old)) (length lengths.old) result.routes result.counts lengths.new stops.new }
+    requires { Searching (of_instance given.now) tape.now limit lengths.old stops.old work.old cells.old }
+    ensures { Answers (minimize_routes (allowance limit clock tape.now) (of_instance given.now) (split lengths.old stops.old)) (length lengths.old)
+        result.routes result.counts lengths.new stops.new }
 {
-    if has_soft_windows(flags) {
+    if has_soft_windows(given.fleet.net.places.flags()) {
         return Reduction {
             routes: lengths.len(),
             counts: Counts { steps: 0, draws: 0 },
         };
     }
-    let needed = constrained(flags, vehicle);
-    search(
-        lengths, stops, work, cells, tape, limit, clock, needed, vehicle, demand, n, distances,
-        times, service, ready, due, penalty, flags,
-    )
+    search(lengths, stops, work, cells, tape, limit, clock, given)
 }

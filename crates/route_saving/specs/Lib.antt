@@ -1,5 +1,6 @@
 -- What the contracts of this crate cite.
 -- crates below, passed on to those above
+pub use Rattle.emptied_route.specs.evaluation as evaluation
 pub use Rattle.emptied_route.specs.floats as floats
 pub use Rattle.emptied_route.specs.models as models
 pub use Rattle.emptied_route.specs.route_order as route_order

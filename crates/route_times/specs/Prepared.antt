@@ -6,7 +6,7 @@ use Rattle.std.proofs.Math.Bool.{true, false}
 use mathlib.Core.List.{List, []}
 use Rattle.std.specs.Prelude.{Option, None, Some}
 use Rattle.walked_times.specs.models.declared.vehicle.Vehicle.{Vehicle}
-use Rattle.walked_times.specs.models.Problem.{Problem, problem}
+use Rattle.walked_times.specs.models.Problem.{Problem, problem_of}
 use Rattle.walked_times.specs.route_load.Feasible.{constrained}
 use Rattle.walked_times.specs.quick_test.Quick.{Times, times}
 use Rattle.walked_times.specs.quick_test.Parts.{told}
@@ -41,9 +41,9 @@ module _ (p : Problem) (route : List ℕ) (r : Bool) (cells : List Float) (h : P
       go false k = rw k (same (record { departures = []; latest = [] }) ∙ unread k (record { departures = []; latest = [] }) (held (length route) cells))
 
 -- no demand is read
-pub prepared_any : (n : ℕ) (demand : List ℤ) (service ready due penalty : List Float) (flags : List ℕ) (distances times : List Float) (vehicle : Vehicle)
+pub prepared_any : (p : Problem)
     (route : List ℕ) (r : Bool) (cells : List Float)
-    → Prepared (problem n [] service ready due penalty flags distances times vehicle) route r cells
-    → Prepared (problem n demand service ready due penalty flags distances times vehicle) route r cells
+    → Prepared (problem_of [] p.places p.roads p.vehicle) route r cells
+    → Prepared p route r cells
 unfolding times
-prepared_any n demand service ready due penalty flags distances times vehicle route r cells h = record { needed = h.needed; unneeded = h.unneeded }
+prepared_any p route r cells h = record { needed = h.needed; unneeded = h.unneeded }

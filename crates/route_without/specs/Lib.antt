@@ -2,6 +2,7 @@
 -- what it asks for
 pub mod Attempting
 -- crates below, passed on to those above
+pub use Rattle.pool_attempt.specs.evaluation as evaluation
 pub use Rattle.pool_attempt.specs.models as models
 pub use Rattle.pool_attempt.specs.route_cost as route_cost
 pub use Rattle.pool_attempt.specs.local_search as local_search

@@ -2,7 +2,6 @@
 #![tactic(auto)]
 
 ghost use Rattle.std.specs.Prelude.{◌≡◌, ◌<◌, length};
-ghost use Rattle.pool_attempt.specs.models.Problem.{problem};
 ghost use Rattle.route_removal.specs.plan.Plan.{split};
 ghost use Rattle.pool_attempt.specs.route_cost.Route.{cost};
 ghost use Rattle.pool_attempt.specs.pool_cost.Attempt.{attempt};
@@ -10,13 +9,14 @@ ghost use Rattle.pool_attempt.specs.ejection_pool.Running.{allowance};
 ghost use Rattle.pool_attempt.specs.local_search.Search.{EndsWith0, but_last};
 ghost use Rattle.pool_attempt.specs.Judged.{tried};
 ghost use Rattle.route_without.specs.Attempting.{Attempting};
+ghost use Rattle.pool_attempt.specs.evaluation.Given.{of_instance};
 
 use pool_attempt::try_rest;
 use route_pool::to_pool;
 use route_removal::erase_route;
 
 // Of the crates below, passed on to those above.
-pub use pool_attempt::{Counts, Vehicle};
+pub use pool_attempt::{Counts, Instance, Vehicle};
 
 // Route r is taken out of the plan and emptied into the others. The work cells are free. An error is a plan that is to be kept.
 pub fn try_without(
@@ -30,23 +30,11 @@ pub fn try_without(
     limit: usize,
     clock: u64,
     counted: Counts,
-    needed: bool,
-    vehicle: Vehicle,
-    demand: &[i32],
-    n: usize,
-    distances: &[f64],
-    times: &[f64],
-    service: &[f64],
-    ready: &[f64],
-    due: &[f64],
-    penalty: &[f64],
-    flags: &[u8],
+    given: &Instance,
 ) -> Result<Counts, Counts>
-    requires attempting { Attempting (problem n demand.now service.now ready.now due.now penalty.now flags.now distances.now times.now vehicle) tape.now needed limit
-        lengths.old stops.old work.old cells.old counted }
-    requires r_in_bounds { (r < length lengths.old) × (before ≡ cost (problem n demand.now service.now ready.now due.now penalty.now flags.now distances.now times.now vehicle) (split lengths.old stops.old)) }
-    ensures plan { tried result (split (but_last lengths.new) stops.new) ≡ attempt (allowance limit clock tape.now) (problem n demand.now service.now ready.now due.now penalty.now flags.now
-        distances.now times.now vehicle)
+    requires attempting { Attempting (of_instance given.now) tape.now given.now.fleet.needed limit lengths.old stops.old work.old cells.old counted }
+    requires r_in_bounds { (r < length lengths.old) × (before ≡ cost (of_instance given.now) (split lengths.old stops.old)) }
+    ensures plan { tried result (split (but_last lengths.new) stops.new) ≡ attempt (allowance limit clock tape.now) (of_instance given.now)
         (split lengths.old stops.old) r counted }
     ensures held { EndsWith0 lengths.new stops.new }
 {
@@ -66,16 +54,6 @@ pub fn try_without(
         limit,
         clock,
         counted,
-        needed,
-        vehicle,
-        demand,
-        n,
-        distances,
-        times,
-        service,
-        ready,
-        due,
-        penalty,
-        flags,
+        given,
     )
 }

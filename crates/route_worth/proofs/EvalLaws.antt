@@ -6,7 +6,7 @@ use mathlib.Core.List.{List}
 use lib.Ieee.{Float}
 use Rattle.route_drive.specs.laws.Walks.{walk_rule}
 use Rattle.route_drive.specs.models.Customer.{Customers}
-use Rattle.route_drive.specs.models.Problem.{DistanceMatrix, matrix, Stops}
+use Rattle.route_drive.specs.models.Problem.{DistanceMatrix, Stops}
 use Rattle.route_drive.specs.evaluation.declared.eval.Walk.{Walk}
 use Rattle.route_drive.specs.evaluation.Eval.{set_out, drive, onward, drive_all}
 use Rattle.route_drive.specs.BreakClockStopLaws.{stops_all}
@@ -33,12 +33,11 @@ drive_place cs m w c h = go (drive cs m w c) (λ v e. drive_goes cs m w c v e)
     go None f = tt
     go (Some v) f = rw (f v refl) h
 
-pub drive_all_there : (cs : Customers) (n : ℕ) (distances times : List Float) (route : List ℕ) (first w : Walk) (x : Option Walk)
-    → Stops n route → first.prev < n → x ≡ drive_all cs (matrix n distances times) route first → x ≡ Some w → w.prev < n
-drive_all_there cs n distances times route first w x s h ex e =
-    let m = matrix n distances times in
-    subst (Place n) (sym ex ∙ e)
-    (walk_rule Some onward (drive cs m) None (λ s f. refl) (λ f. refl) walked_cases (Place n) (λ c. c < n) tt
-    (λ w c h _. drive_place cs m w c h) route first (stops_all n route s) h)
+pub drive_all_there : (cs : Customers) (m : DistanceMatrix) (route : List ℕ) (first w : Walk) (x : Option Walk)
+    → Stops m.size route → first.prev < m.size → x ≡ drive_all cs m route first → x ≡ Some w → w.prev < m.size
+drive_all_there cs m route first w x s h ex e =
+    subst (Place m.size) (sym ex ∙ e)
+    (walk_rule Some onward (drive cs m) None (λ s f. refl) (λ f. refl) walked_cases (Place m.size) (λ c. c < m.size) tt
+    (λ w c h _. drive_place cs m w c h) route first (stops_all m.size route s) h)
 
 pub ruleset drive_ends = (out_there, drive_all_there)

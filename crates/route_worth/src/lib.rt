@@ -2,8 +2,7 @@
 #![tactic(auto)]
 
 ghost use Rattle.std.specs.Prelude.{◌≡◌, ◌<◌};
-ghost use Rattle.route_drive.specs.models.Customer.{customers};
-ghost use Rattle.route_drive.specs.models.Problem.{matrix, Fit, Stops};
+ghost use Rattle.route_drive.specs.models.Problem.{Stops};
 ghost use Rattle.route_drive.specs.evaluation.Eval.{route_eval, effective_cost};
 
 use route_drive::{
@@ -13,8 +12,8 @@ use route_drive::{
 
 // Of the crates below, passed on to those above.
 pub use route_drive::{
-    RouteLimits, TimeWindow, Vehicle, has_soft_windows, is_finite, largest, max, penalty_at,
-    total_less, window_at,
+    Customers, DistanceMatrix, Fleet, Instance, Network, Problem, RouteLimits, TimeWindow, Vehicle,
+    has_soft_windows, is_finite, largest, max, penalty_at, total_less, window_at,
 };
 
 // The evaluation of the route depot, stops, depot.
@@ -22,63 +21,25 @@ pub fn route_eval(
     route: &[u16],
     depot: usize,
     limits: RouteLimits,
-    n: usize,
-    distances: &[f64],
-    times: &[f64],
-    service: &[f64],
-    ready: &[f64],
-    due: &[f64],
-    penalty: &[f64],
-    flags: &[u8],
+    net: &Network,
 ) -> Option<RouteEval>
-    requires fit { Fit (customers service.now ready.now due.now penalty.now flags.now) (matrix n distances.now times.now) }
-    requires depot_lt_n { (depot < n) × Stops n route.now }
-    ensures { result ≡ route_eval (customers service.now ready.now due.now penalty.now flags.now)
-        (matrix n distances.now times.now) depot limits route.now }
+    requires { (depot < net.now.roads.size) × Stops net.now.roads.size route.now }
+    ensures { result ≡ route_eval net.now.places net.now.roads depot limits route.now }
 {
     let Some(rest) = limits.rest else {
-        let walk = drive_all(
-            Walk::new(depot),
-            route,
-            n,
-            distances,
-            times,
-            service,
-            ready,
-            due,
-            penalty,
-            flags,
-        )?;
-        return home(walk, depot, limits, n, distances, times);
+        let walk = drive_all(Walk::new(depot), route, net)?;
+        return home(walk, depot, limits, &net.roads);
     };
-    let e = schedule(
-        route, depot, rest, n, distances, times, service, ready, due, penalty, flags,
-    );
+    let e = schedule(route, depot, rest, net);
     limited(e, limits)
 }
 
 // What the searches minimise on one route: its priced distance, infinite where it does not pass.
-pub fn effective_cost(
-    route: &[u16],
-    depot: usize,
-    limits: RouteLimits,
-    n: usize,
-    distances: &[f64],
-    times: &[f64],
-    service: &[f64],
-    ready: &[f64],
-    due: &[f64],
-    penalty: &[f64],
-    flags: &[u8],
-) -> f64
-    requires fit { Fit (customers service.now ready.now due.now penalty.now flags.now) (matrix n distances.now times.now) }
-    requires depot_lt_n { (depot < n) × Stops n route.now }
-    ensures { result ≡ effective_cost (customers service.now ready.now due.now penalty.now flags.now)
-        (matrix n distances.now times.now) depot limits route.now }
+pub fn effective_cost(route: &[u16], depot: usize, limits: RouteLimits, net: &Network) -> f64
+    requires { (depot < net.now.roads.size) × Stops net.now.roads.size route.now }
+    ensures { result ≡ effective_cost net.now.places net.now.roads depot limits route.now }
 {
-    match route_eval(
-        route, depot, limits, n, distances, times, service, ready, due, penalty, flags,
-    ) {
+    match route_eval(route, depot, limits, net) {
         Some(e) => e.priced_distance(),
         None => infinity(),
     }

@@ -1,3 +1,3 @@
 -- Laws that this crate's proofs cite.
--- two slices compared
+-- slices compared
 pub mod CellLaws

@@ -1,5 +1,3 @@
 -- What the contracts of this crate cite.
 -- crates below, passed on to those above
 pub use Rattle.stored_answers.specs as stored_answers
--- and their laws
-pub use Rattle.stored_answers.proofs.AnswerLaws as StoredAnswersAnswerLaws

@@ -7,10 +7,11 @@ use native.Mathlib.Nat.{mul-le-mul_right}
 use native.Mathlib.Omega.{arith}
 use lib.ListN.{length, take, length-take}
 use lib.IntN.{ℤ}
-use lib.Ieee.{Float}
+use lib.Dec.{T}
+use lib.Ieee.{Float, binary64, in_unsigned}
 use Rattle.planner.specs.laws.All.{All, all_of, all_map, all_take, all_head}
 use Rattle.planner.specs.models.declared.vehicle.Vehicle.{Vehicle}
-use Rattle.planner.specs.models.Problem.{Problem, depot, Stops, Demands}
+use Rattle.planner.specs.models.Problem.{Problem, matrix, depot, Stops, Demands}
 use Rattle.planner.specs.plan.Plan.{Plan, Slices, Lent, split, flat}
 use Rattle.planner.specs.plan.Slices.{length_split, flat_split_all}
 use Rattle.planner.specs.local_search.Planned.{planned_stops}
@@ -31,9 +32,9 @@ use Rattle.planner.specs.Told.{slices_of, work_of, reply_of}
 use Rattle.planner.proofs.Demand3.{demand_3}
 use Rattle.sheet_laws.specs.sheet_text.Text.{refused as refused-reading, got}
 use Rattle.sheet_laws.specs.sheet_format.Form.{Sheet, sheet}
-use Rattle.sheet_laws.specs.listing.Listing.{of_listing, Prints, listing, refusal_line}
+use Rattle.sheet_laws.specs.route_cost.Route.{route_distance}
+use Rattle.sheet_laws.specs.listing.Listing.{Prints, listing, refusal_line}
 use Rattle.sheet_laws.specs.listing.Written.{Room, Written}
-use Rattle.sheet_laws.specs.ListingReadLaws.{read, listing_reads}
 use Rattle.sheet_laws.specs.ListingBoundLaws.{listing_fits, refusal_fits}
 use Rattle.sheet_laws.specs.Short.{Short}
 use Rattle.sheet_laws.proofs.Distances.{distance_prints}
@@ -98,13 +99,15 @@ few_routes p s d t e = go (refusal (eliminate_inputs p s work)) e
         omega (arith, b, (eliminate_keeps p (λ r. Unit {0}) (λ r h. tt) (plan_in s) (every (plan_in s))).no_longer, length_split s.lengths s.stops)
 
 -- routes over n places print where the distances have nine digits
-stops_print : (n : ℕ) (demand : List ℤ) (distances : List Float) (v : Vehicle) → Short n distances → v.depot_id < n → (route : List ℕ) → Stops n route
-    → Prints (of_listing n demand distances v) route
-stops_print n demand distances v h home route s =
+stops_print : (p : Problem) → Short p.roads.size p.roads.distances → depot p < p.roads.size → (route : List ℕ) → Stops p.roads.size route → Prints p route
+stops_print p h home route s =
+    let m = p.roads in
     let most = mul-le-mul_right 999_999_999 s.few in
     let few : suc (length route) * 999_999_999 ≤ 2 ^ 53 = omega (arith, most) in
-    let d = distance_prints n h.cells [] h.size 999_999_999 h.small v.depot_id home route (all_of route 0 s.each) few in
-    record { castable = rw h.are d.0 }
+    let d = distance_prints m.size h.cells m.times h.size 999_999_999 h.small (depot p) home route (all_of route 0 s.each) few in
+    record {
+      castable = subst (λ (ds : List Float). T (in_unsigned binary64 64 (route_distance (matrix m.size ds m.times) (depot p) route))) (sym h.are) d.0;
+    }
 
 -- ---- texts that are printed
 
@@ -146,9 +149,9 @@ module _
         abbrev routes : Plan
         routes = take d.routes (split lengths stops)
 
-        pub eliminate_lists : listing (read p) routes counts given ≡ eliminated p s counts given
+        pub eliminate_lists : listing p routes counts given ≡ eliminated p s counts given
         unfolding eliminated
-        eliminate_lists = sym (listing_reads p routes counts given) ∙ rw (← answers)
+        eliminate_lists = rw (← answers)
 
         module _ (short : Short p.roads.size p.roads.distances) (few-lengths : length lengths ≤ 64) (few_stops : length stops ≤ 64)
             (same : length lengths ≡ length s.lengths) (out : List ℕ) (room : 6000 ≤ length out) where
@@ -158,16 +161,16 @@ module _
 
           -- what the writer of a listing asks for
           pub eliminate_asks
-              : Room out 0 (listing (read p) routes counts given)
+              : Room out 0 (listing p routes counts given)
               × (((p.roads.size ≤ 256) × (length p.roads.distances ≡ p.roads.size * p.roads.size))
               × (((depot p < p.roads.size) × Demands p.roads.size p.demand × Lent lengths stops × (d.routes ≤ length lengths))
-              × (All (Stops p.roads.size) routes × All (Prints (read p)) routes)))
+              × (All (Stops p.roads.size) routes × All (Prints p) routes)))
           eliminate_asks =
               let b = accepted in
               let inside = all_take d.routes (planned_stops p.roads.size (split lengths stops) b.planned) in
               let few : length routes ≤ 64 = omega (arith, length-take d.routes (split lengths stops), length_split lengths stops, few-lengths) in
               let in_all : length (flat routes) ≤ 64 = omega (arith, flat_take d.routes (split lengths stops), ap length (flat_split_all lengths stops b.sum), few_stops) in (
-                record { fits = omega (arith, listing_fits (read p) routes counts given few in_all, room) },
+                record { fits = omega (arith, listing_fits p routes counts given few in_all, room) },
                 (
                   (b.admitted.fit.square.few, b.admitted.fit.square.distance_cells),
                   (
@@ -177,7 +180,7 @@ module _
                       record { inside = omega (arith, b.sum); few = omega (arith, few_stops) },
                       omega (arith, few_routes p s d (slices_of lengths stops) answers, same),
                     ),
-                    (inside, all_map (λ r q. stops_print p.roads.size p.demand p.roads.distances p.vehicle short b.admitted.depot_in r q) inside),
+                    (inside, all_map (λ r q. stops_print p short b.admitted.depot_in r q) inside),
                   ),
                 ),
               )

@@ -7,11 +7,13 @@ ghost use Rattle.minimise_call.specs.planner.Told.{slices_of};
 ghost use Rattle.sheet_elimination.specs.listing.Written.{Written};
 ghost use Rattle.sheet_elimination.specs.sheet_laws.Short.{Short};
 ghost use Rattle.sheet_elimination.specs.sheet_answers.Printed.{planned, sheet_of};
+ghost use Rattle.minimise_call.specs.models.Lent.{of_problem};
 
 use minimise_call::{Vehicle, minimise};
 use sheet_elimination::list_eliminated;
 
 // Of the crates below, passed on to those above.
+pub use minimise_call::{Customers, DistanceMatrix, Problem};
 pub use sheet_elimination::put_refusal;
 
 // Minimises, then eliminates.
@@ -24,34 +26,19 @@ pub fn list_planned(
     tape: &[u64],
     limit: u64,
     clock: u64,
-    n: usize,
-    demand: &[i32],
-    service: &[f64],
-    ready: &[f64],
-    due: &[f64],
-    penalty: &[f64],
-    flags: &[u8],
-    distances: &[f64],
-    times: &[f64],
-    vehicle: Vehicle,
+    problem: &Problem,
 ) -> usize
-    requires in_bounds { (6000 ≤ length out.old) × (length lengths.old ≤ 64) × (length stops.old ≤ 64) × (length work.old ≡ 8192) × (length cells.old ≡ 2048) }
-    requires short { Short n distances.now }
-    ensures { Written out.old 0 (planned (sheet_of (problem n demand.now service.now ready.now due.now penalty.now flags.now
-        distances.now times.now vehicle) (slices_of lengths.old stops.old) tape.now limit clock)) out.new result }
+    requires in_bounds { (6000 ≤ length out.old) × (length lengths.old ≤ 64) × (length stops.old ≤ 64) × (length work.old ≡ 8192)
+        × (length cells.old ≡ 2048) }
+    requires short { Short problem.now.roads.now.size problem.now.roads.now.distances }
+    ensures { Written out.old 0 (planned (sheet_of (of_problem problem.now) (slices_of lengths.old stops.old) tape.now limit clock)) out.new result }
 {
     let given = lengths.len() as u64;
-    let m = minimise(
-        lengths, stops, work, cells, tape, limit, clock, n, demand, service, ready, due, penalty,
-        flags, distances, times, vehicle,
-    );
+    let m = minimise(lengths, stops, work, cells, tape, limit, clock, problem);
     match m {
         Ok(d) => {
             let counts = d.counts;
-            list_eliminated(
-                out, lengths, stops, work, cells, counts, given, n, demand, service, ready, due,
-                penalty, flags, distances, times, vehicle,
-            )
+            list_eliminated(out, lengths, stops, work, cells, counts, given, problem)
         }
         Err(refusal) => put_refusal(out, 0, refusal.number() as u64),
     }

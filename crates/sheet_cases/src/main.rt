@@ -2,10 +2,10 @@
 // README.md says how it is made. What must be printed is the original's answer to each.
 #![tactic(auto)]
 
-ghost use Rattle.std.specs.Prelude.{◌≡◌, length};
+ghost use Rattle.std.specs.Prelude.{◌≡◌, ◌<◌, length, IfSome};
 
 use sheet_print::{listing_room, print_sheet};
-use stored::text::number;
+use stored::Numbers;
 
 // Standard output.
 const STDOUT: i32 = 1;
@@ -22,30 +22,30 @@ fn print_fault() {
     io::write_all(STDOUT, b"a case is not of the form\n");
 }
 
+// The next sheet, behind its number of bytes and the line end.
+fn sheet_at<'a>(numbers: &mut Numbers<'a>) -> Option<&'a [u8]>
+    ensures { IfSome result (λ _. length numbers.new.rest.now < length numbers.old.rest.now) }
+{
+    let size = numbers.next()?;
+    let (_line_end, rest) = numbers.rest.split_first()?;
+    if size > rest.len() as u64 {
+        return None;
+    }
+    let (sheet, rest) = rest.split_at(size as usize);
+    numbers.rest = rest;
+    Some(sheet)
+}
+
 // Prints what each sheet prints.
 fn print_cases(text: &[u8]) {
     let mut out = listing_room();
-    let mut at = 0;
-    while at < text.len() {
-        let size = number(text, at);
-        let next = size.next;
-        if next < at {
+    let mut numbers = Numbers { rest: text };
+    while !numbers.rest.is_empty() {
+        let Some(sheet) = sheet_at(&mut numbers) else {
             print_fault();
             return;
-        }
-        if next >= text.len() {
-            print_fault();
-            return;
-        }
-        let begin = next + 1; // behind the line end
-        let left = text.len() - begin;
-        if size.value > left as u64 {
-            print_fault();
-            return;
-        }
-        let end = begin + size.value as usize;
-        print_sheet(&mut out, &text[begin..end]);
-        at = end;
+        };
+        print_sheet(&mut out, sheet);
     }
 }
 

@@ -1,5 +1,3 @@
--- how a lent slice holds draws
-pub mod Draws
 -- crates below, passed on to those above
 pub use Rattle.sheet_reader.specs.models as models
 pub use Rattle.sheet_reader.specs.plan as plan
@@ -8,4 +6,3 @@ pub use Rattle.sheet_reader.specs.sheet_format as sheet_format
 pub use Rattle.sheet_reader.specs as sheet_reader
 -- and their laws
 pub use Rattle.sheet_reader.specs.SheetTextReadLaws as SheetTextReadLaws
-pub use Rattle.sheet_reader.proofs.FillLaws as SheetReaderFillLaws

@@ -1,36 +1,33 @@
 // Reads the draws of a sheet into a lent slice.
 #![tactic(auto)]
 
-ghost use Rattle.std.specs.Prelude.{◌≡◌, ◌≤◌, length, take};
+ghost use Rattle.std.specs.Prelude.{◌≡◌, ◌≤◌, length, take, IfOk};
 ghost use Rattle.sheet_reader.specs.sheet_text.Text.{before, repeat, lf};
 ghost use Rattle.sheet_reader.specs.sheet_text.Text.{number as Text·number};
+ghost use Rattle.sheet_reader.specs.sheet_text.Told.{Reads, told_as};
 ghost use Rattle.sheet_reader.specs.sheet_format.Form.{draws as Form·draws};
-ghost use Rattle.sheet_reader.specs.Cells.{filled, AtMost};
-ghost use Rattle.sheet_draws.specs.Draws.{filled_count};
 
-use sheet_reader::{Refusal, heading, number_before};
+use sheet_reader::{Refusal, Text, heading, number_before};
 
-// n draws, one a line, into the first cells.
-fn draw_rows(cells: &mut [u64], s: &[u8], at: usize, n: usize) -> Option<usize>
-    requires { n ≤ length cells.old }
-    ensures { filled (take n cells.new) result ≡ repeat n (λ left. before lf Text·number) s.now at }
+// As many draws as there are cells, one a line.
+fn draw_rows(cells: &mut [u64], text: &mut Text<'_>) -> Result<(), Refusal>
+    ensures { Reads (repeat (length cells.old) (λ left. before lf Text·number)) text.old (told_as (λ done. cells.new) result) text.new }
 {
-    let mut a = at;
+    let n = cells.len();
     for i in 0..n {
-        let (v, j) = number_before(s, a, 10)?;
+        let v = number_before(text, b'\n')?;
         cells[i] = v as u64;
-        a = j;
     }
-    Some(a)
+    Ok(())
 }
 
 // The section of the draws.
-pub fn draws(cells: &mut [u64], s: &[u8], at: usize) -> Result<(usize, usize), Refusal>
+pub fn draws(cells: &mut [u64], text: &mut Text<'_>) -> Result<usize, Refusal>
     requires { 1024 ≤ length cells.old }
-    ensures result_after { filled_count cells.new result ≡ Form·draws s.now at }
-    ensures at_most { AtMost 1024 result }
+    ensures read { Reads Form·draws text.old (told_as (λ m. take m cells.new) result) text.new }
+    ensures at_most { IfOk result (λ m. m ≤ 1024) }
 {
-    let (m, i) = heading(s, at, b"draws", 0, 1024, Refusal::SheetSizes)?;
-    let e = draw_rows(cells, s, i, m).ok_or(Refusal::SheetForm)?;
-    Ok((m, e))
+    let m = heading(text, b"draws", 0, 1024, Refusal::SheetSizes)?;
+    draw_rows(&mut cells[..m], text)?;
+    Ok(m)
 }

@@ -7,8 +7,9 @@ ghost use Rattle.eliminate_call.specs.planner.Told.{slices_of};
 ghost use Rattle.listing_whole.specs.listing.Written.{Written};
 ghost use Rattle.sheet_answers.specs.sheet_laws.Short.{Short};
 ghost use Rattle.sheet_answers.specs.Printed.{eliminated};
+ghost use Rattle.eliminate_call.specs.models.Lent.{of_problem};
 
-use eliminate_call::{Counts, Vehicle, eliminate};
+use eliminate_call::{Counts, Problem, Vehicle, eliminate};
 use listing_whole::put_listing;
 
 // Of the crates below, passed on to those above.
@@ -23,30 +24,16 @@ pub fn list_eliminated(
     cells: &[f64],
     counts: Counts,
     given: u64,
-    n: usize,
-    demand: &[i32],
-    service: &[f64],
-    ready: &[f64],
-    due: &[f64],
-    penalty: &[f64],
-    flags: &[u8],
-    distances: &[f64],
-    times: &[f64],
-    vehicle: Vehicle,
+    problem: &Problem,
 ) -> usize
-    requires in_bounds { (6000 ≤ length out.old) × (length lengths.old ≤ 64) × (length stops.old ≤ 64) × (length work.old ≡ 8192) × (length cells.now ≡ 2048) }
-    requires short { Short n distances.now }
-    ensures { Written out.old 0 (eliminated (problem n demand.now service.now ready.now due.now penalty.now flags.now
-        distances.now times.now vehicle) (slices_of lengths.old stops.old) counts given) out.new result }
+    requires in_bounds { (6000 ≤ length out.old) × (length lengths.old ≤ 64) × (length stops.old ≤ 64) × (length work.old ≡ 8192)
+        × (length cells.now ≡ 2048) }
+    requires short { Short problem.now.roads.now.size problem.now.roads.now.distances }
+    ensures { Written out.old 0 (eliminated (of_problem problem.now) (slices_of lengths.old stops.old) counts given) out.new result }
 {
-    let e = eliminate(
-        lengths, stops, work, cells, n, demand, service, ready, due, penalty, flags, distances,
-        times, vehicle,
-    );
+    let e = eliminate(lengths, stops, work, cells, problem);
     match e {
-        Ok(d) => put_listing(
-            out, lengths, stops, d.routes, counts, given, demand, n, distances, vehicle,
-        ),
+        Ok(d) => put_listing(out, lengths, stops, d.routes, counts, given, problem),
         Err(refusal) => put_refusal(out, 0, refusal.number() as u64),
     }
 }

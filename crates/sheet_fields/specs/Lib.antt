@@ -3,4 +3,3 @@
 pub use Rattle.sheet_text.specs as sheet_text
 -- and their laws
 pub use Rattle.sheet_text.proofs.ReadLaws as SheetTextReadLaws
-pub use Rattle.sheet_text.proofs.TextLaws as SheetTextTextLaws

@@ -2,73 +2,78 @@
 #![tactic(auto)]
 
 ghost use Rattle.std.specs.Prelude.{◌≡◌};
-ghost use Rattle.sheet_text.specs.Text.{got, next, byte as Text·byte, before};
+ghost use Rattle.sheet_text.specs.Text.{before};
 ghost use Rattle.sheet_text.specs.Text.{number as Text·number, signed as Text·signed, optional as Text·optional};
-ghost use Rattle.sheet_text.specs.Told.{told_option};
+ghost use Rattle.sheet_text.specs.Told.{Reads, told, given};
 
 use sheet_text::numbers::{is_end, number};
 
 // Of the crates below, passed on to those above.
-pub use sheet_text::Refusal;
 pub use sheet_text::numbers::{byte, number as sheet_text_number, peek};
 pub use sheet_text::words::ending;
+pub use sheet_text::{Refusal, Text};
 
 // What was read, and the byte behind it.
-pub fn behind<T: Copy>(s: &[u8], read: Option<(T, usize)>, b: u8) -> Option<(T, usize)>
-    ensures { told_option result ≡ next (told_option read) (λ v i. next (Text·byte b s.now i) (λ u j. got v j)) }
+pub fn behind<T: Copy>(text: &mut Text<'_>, read: Result<T, Refusal>, b: u8) -> Result<T, Refusal>
+    ensures { Reads (before b (given read)) text.old (told result) text.new }
 {
-    let (v, i) = read?;
-    let j = byte(s, i, b)?;
-    Some((v, j))
+    let v = read?;
+    byte(text, b)?;
+    Ok(v)
 }
 
 // A number and the byte behind it.
-pub fn number_before(s: &[u8], at: usize, b: u8) -> Option<(u32, usize)>
-    ensures { told_option result ≡ before b Text·number s.now at }
+pub fn number_before(text: &mut Text<'_>, b: u8) -> Result<u32, Refusal>
+    ensures { Reads (before b Text·number) text.old (told result) text.new }
 {
-    behind(s, number(s, at), b)
+    let v = number(text);
+    behind(text, v, b)
 }
 
 // A number that may have a minus sign before it.
-fn signed(s: &[u8], at: usize) -> Option<(i32, usize)>
-    ensures { told_option result ≡ Text·signed s.now at }
+#[tactic(auto, using(sheet_text::proofs::ReadLaws::reads), unfolding(sheet_text::specs::Text::signed))]
+fn signed(text: &mut Text<'_>) -> Result<i32, Refusal>
+    ensures { Reads Text·signed text.old (told result) text.new }
 {
-    let x = peek(s, at);
-    if x == 45 {
-        let (v, i) = number(s, at + 1)?;
-        return Some((-(v as i32), i));
+    if peek(text) == b'-' as u16 {
+        byte(text, b'-')?;
+        let v = number(text)?;
+        return Ok(-(v as i32));
     }
-    let (v, i) = number(s, at)?;
-    Some((v as i32, i))
+    let v = number(text)?;
+    Ok(v as i32)
 }
 
 // The same, and the byte behind it.
-pub fn signed_before(s: &[u8], at: usize, b: u8) -> Option<(i32, usize)>
-    ensures { told_option result ≡ before b Text·signed s.now at }
+pub fn signed_before(text: &mut Text<'_>, b: u8) -> Result<i32, Refusal>
+    ensures { Reads (before b Text·signed) text.old (told result) text.new }
 {
-    behind(s, signed(s, at), b)
+    let v = signed(text);
+    behind(text, v, b)
 }
 
 // A number, or a lone minus sign.
-fn optional(s: &[u8], at: usize) -> Option<(Option<u32>, usize)>
-    ensures { told_option result ≡ Text·optional s.now at }
+#[tactic(auto, using(sheet_text::proofs::ReadLaws::reads), unfolding(sheet_text::specs::Text::optional))]
+fn optional(text: &mut Text<'_>) -> Result<Option<u32>, Refusal>
+    ensures { Reads Text·optional text.old (told result) text.new }
 {
-    let x = peek(s, at);
-    if x == 45 {
-        let e = peek(s, at + 1);
+    if peek(text) == b'-' as u16 {
+        byte(text, b'-')?;
+        let e = peek(text);
         return if is_end(e) {
-            Some((None, at + 1))
+            Ok(None)
         } else {
-            None
+            Err(Refusal::SheetForm)
         };
     }
-    let (v, i) = number(s, at)?;
-    Some((Some(v), i))
+    let v = number(text)?;
+    Ok(Some(v))
 }
 
 // The same, and the byte behind it.
-pub fn optional_before(s: &[u8], at: usize, b: u8) -> Option<(Option<u32>, usize)>
-    ensures { told_option result ≡ before b Text·optional s.now at }
+pub fn optional_before(text: &mut Text<'_>, b: u8) -> Result<Option<u32>, Refusal>
+    ensures { Reads (before b Text·optional) text.old (told result) text.new }
 {
-    behind(s, optional(s, at), b)
+    let v = optional(text);
+    behind(text, v, b)
 }

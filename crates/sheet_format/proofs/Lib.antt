@@ -1,2 +1,2 @@
--- a minus sign before it is read, and a place that is handed on
-pub mod LineLaws
+-- the laws that the readers lean on
+pub mod Readers

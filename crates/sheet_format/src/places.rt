@@ -1,12 +1,13 @@
 // A place's line.
 ghost use Rattle.std.specs.Prelude.{◌≡◌};
 ghost use Rattle.sheet_fields.specs.sheet_text.Text.{before};
-ghost use Rattle.sheet_fields.specs.sheet_text.Told.{told_option};
+ghost use Rattle.sheet_fields.specs.sheet_text.Told.{Reads, told};
 ghost use Rattle.sheet_format.specs.Form.{float_of as Form·float-of, window as Form·window, penalty as Form·penalty, place as Form·place};
 
 use models::customer::{Customer, TimeWindow};
 use sheet_fields::{
-    behind, byte, number_before, optional_before, peek, sheet_text_number as number, signed_before,
+    Refusal, Text, behind, byte, number_before, optional_before, peek, sheet_text_number as number,
+    signed_before,
 };
 
 // A place's line: its demand, and what the evaluation of a route reads of it.
@@ -17,29 +18,31 @@ pub struct Place {
 }
 
 // READY and DUE: two numbers, or two lone minus signs.
-fn window(s: &[u8], at: usize) -> Option<(Option<TimeWindow>, usize)>
-    ensures { told_option result ≡ Form·window s.now at }
+#[tactic(auto, using(crate::proofs::Readers::readers), unfolding(crate::specs::Form::window))]
+fn window(text: &mut Text<'_>) -> Result<Option<TimeWindow>, Refusal>
+    ensures { Reads Form·window text.old (told result) text.new }
 {
-    let x = peek(s, at);
-    if x == 45 {
-        let i = byte(s, at + 1, 32)?;
-        let j = byte(s, i, 45)?;
-        return Some((None, j));
+    if peek(text) == b'-' as u16 {
+        byte(text, b'-')?; // READY
+        byte(text, b' ')?;
+        byte(text, b'-')?; // DUE
+        return Ok(None);
     }
-    let (ready, i) = number_before(s, at, 32)?;
-    let (due, j) = number(s, i)?;
+    let ready = number_before(text, b' ')?;
+    let due = number(text)?;
     let window = TimeWindow {
         ready: ready as f64,
         due: due as f64,
     };
-    Some((Some(window), j))
+    Ok(Some(window))
 }
 
 // The same, and the byte behind it.
-fn window_before(s: &[u8], at: usize, b: u8) -> Option<(Option<TimeWindow>, usize)>
-    ensures { told_option result ≡ before b Form·window s.now at }
+fn window_before(text: &mut Text<'_>, b: u8) -> Result<Option<TimeWindow>, Refusal>
+    ensures { Reads (before b Form·window) text.old (told result) text.new }
 {
-    behind(s, window(s, at), b)
+    let w = window(text);
+    behind(text, w, b)
 }
 
 // A number that may be none, as a float.
@@ -50,25 +53,27 @@ pub fn float_of(n: Option<u32>) -> Option<f64>
 }
 
 // PENALTY, the last of its line.
-fn penalty(s: &[u8], at: usize) -> Option<(Option<f64>, usize)>
-    ensures { told_option result ≡ Form·penalty s.now at }
+#[tactic(auto, using(crate::proofs::Readers::readers), unfolding(crate::specs::Form::penalty))]
+fn penalty(text: &mut Text<'_>) -> Result<Option<f64>, Refusal>
+    ensures { Reads Form·penalty text.old (told result) text.new }
 {
-    let (p, i) = optional_before(s, at, 10)?;
-    Some((float_of(p), i))
+    let p = optional_before(text, b'\n')?;
+    Ok(float_of(p))
 }
 
 // A place's line.
-pub fn place_line(s: &[u8], at: usize) -> Option<(Place, usize)>
-    ensures { told_option result ≡ Form·place s.now at }
+#[tactic(auto, using(crate::proofs::Readers::readers), unfolding(crate::specs::Form::place))]
+pub fn place_line(text: &mut Text<'_>) -> Result<Place, Refusal>
+    ensures { Reads Form·place text.old (told result) text.new }
 {
-    let (demand, i) = signed_before(s, at, 32)?;
-    let (service, j) = number_before(s, i, 32)?;
-    let (time_window, k) = window_before(s, j, 32)?;
-    let (lateness_penalty, e) = penalty(s, k)?;
+    let demand = signed_before(text, b' ')?;
+    let service = number_before(text, b' ')?;
+    let time_window = window_before(text, b' ')?;
+    let lateness_penalty = penalty(text)?;
     let customer = Customer {
         service_duration: service as f64,
         time_window,
         lateness_penalty,
     };
-    Some((Place { demand, customer }, e))
+    Ok(Place { demand, customer })
 }

@@ -4,41 +4,39 @@
 ghost use Rattle.std.specs.Prelude.{◌≡◌};
 ghost use Rattle.sheet_text.specs.refusal.Number.{number as refusal_number};
 ghost use Rattle.sheet_text.specs.Text.{word as Text·word};
-ghost use Rattle.sheet_text.specs.Told.{told_next, told_result};
+ghost use Rattle.sheet_text.specs.Told.{Reads, told};
 ghost use Rattle.sheet_headings.specs.Heading.{heading as Text·heading};
 
-use sheet_text::Refusal;
 use sheet_text::numbers::{byte, number};
+use sheet_text::{Refusal, Text};
 
 // The bytes of a word.
-fn word(s: &[u8], at: usize, w: &[u8]) -> Option<usize>
-    ensures { told_next result ≡ Text·word w.now s.now at }
+fn word(text: &mut Text<'_>, w: &[u8]) -> Result<(), Refusal>
+    ensures { Reads (Text·word w.now) text.old (told result) text.new }
 {
-    let mut i = at;
     for b in w {
-        i = byte(s, i, *b)?;
+        byte(text, *b)?;
     }
-    Some(i)
+    Ok(())
 }
 
 // A section's name and its count, which is refused with `refusal` unless it lies between least and most.
+#[tactic(auto, using(sheet_text::proofs::ReadLaws::reads), unfolding(crate::specs::Heading::heading))]
 pub fn heading(
-    s: &[u8],
-    at: usize,
+    text: &mut Text<'_>,
     name: &[u8],
     least: usize,
     most: usize,
     refusal: Refusal,
-) -> Result<(usize, usize), Refusal>
-    ensures { told_result result ≡ Text·heading name.now least most (refusal_number refusal) s.now at }
+) -> Result<usize, Refusal>
+    ensures { Reads (Text·heading name.now least most (refusal_number refusal)) text.old (told result) text.new }
 {
-    let i = word(s, at, name).ok_or(Refusal::SheetForm)?;
-    let j = byte(s, i, 32).ok_or(Refusal::SheetForm)?;
-    let (v, k) = number(s, j).ok_or(Refusal::SheetForm)?;
-    let n = v as usize;
+    word(text, name)?;
+    byte(text, b' ')?;
+    let n = number(text)? as usize;
     if n < least || n > most {
         return Err(refusal);
     }
-    let e = byte(s, k, 10).ok_or(Refusal::SheetForm)?;
-    Ok((n, e))
+    byte(text, b'\n')?;
+    Ok(n)
 }

@@ -8,7 +8,7 @@ ghost use Rattle.sheet_calls.specs.listing.Written.{Written};
 ghost use Rattle.sheet_calls.specs.sheet_laws.Short.{Short};
 ghost use Rattle.sheet_calls.specs.sheet_answers.Printed.{planned};
 
-use sheet_calls::list_planned;
+use sheet_calls::{Customers, DistanceMatrix, Problem, list_planned};
 use sheet_whole::Head;
 
 // Of the crates below, passed on to those above.
@@ -44,14 +44,33 @@ pub fn list_parts(
     requires in_bounds_3 { (4096 ≤ length distances.now) × (4096 ≤ length times.now) }
     requires n_bound { (head.n ≤ 64) × (head.timed ≤ head.n) × (draws ≤ 1024) × (given ≤ 64) × (used ≤ 64) }
     requires short { Short head.n (take (head.n * head.n) distances.now) }
-    ensures { Written out.old 0 (planned (sheet_in lengths.old stops.old tape.now (columns_of demand.now service.now ready.now due.now penalty.now flags.now)
-        distances.now times.now head draws given used limit clock)) out.new result }
+    ensures { Written out.old 0 (planned
+        (sheet_in lengths.old stops.old tape.now (columns_of demand.now service.now ready.now due.now penalty.now flags.now) distances.now times.now
+        head draws given used limit clock)) out.new result }
 {
     let n = head.n;
     let timed = head.timed;
     let vehicle = head.vehicle;
     let m = n * n;
     let t = timed * timed;
+    let places = Customers {
+        service: &service[..n],
+        ready: &ready[..n],
+        due: &due[..n],
+        penalty: &penalty[..n],
+        flags: &flags[..n],
+    };
+    let roads = DistanceMatrix {
+        size: n,
+        distances: &distances[..m],
+        times: &times[..t],
+    };
+    let problem = Problem {
+        demand: &demand[..n],
+        places: &places,
+        roads: &roads,
+        vehicle,
+    };
     list_planned(
         out,
         &mut lengths[..given],
@@ -61,15 +80,6 @@ pub fn list_parts(
         &tape[..draws],
         limit as u64,
         clock,
-        n,
-        &demand[..n],
-        &service[..n],
-        &ready[..n],
-        &due[..n],
-        &penalty[..n],
-        &flags[..n],
-        &distances[..m],
-        &times[..t],
-        vehicle,
+        &problem,
     )
 }

@@ -2,6 +2,8 @@
 #![tactic(auto)]
 
 ghost use Rattle.std.specs.Prelude.{◌≡◌, length};
+ghost use Rattle.sheet_listing.specs.sheet_answers.Printed.{printed};
+ghost use Rattle.sheet_planner.specs.Output.{into};
 
 use sheet_planner::plan_sheet;
 
@@ -15,10 +17,11 @@ pub fn listing_room() -> [u8; 6000]
     [0; 6000]
 }
 
-// Writes what a text prints: its listing, or the line of its refusal.
-pub fn print_sheet(out: &mut [u8], text: &[u8]) {
-    let p = plan_sheet(out, text);
-    if let Some(n) = p {
+// Writes what a text prints: its listing, or the line of its refusal. It is proved that this stands in the slice, and not that standard output gets it.
+pub fn print_sheet(out: &mut [u8], text: &[u8])
+    ensures { out.new ≡ (into out.old (printed text.now)).bytes }
+{
+    if let Some(n) = plan_sheet(out, text) {
         io::write_all(STDOUT, &out[..n]);
     }
 }

@@ -1,10 +1,7 @@
--- What the answer of the reader of a problem means, with what the slices hold after it. Assumes nothing.
-use Rattle.std.specs.Prelude.{ℕ, ◌*◌, ◌≤◌, List, take, Float, Result, Ok, Err}
+-- The problem that slices hold. Assumes nothing.
+use Rattle.std.specs.Prelude.{◌*◌, List, take, Float}
 use Rattle.sheet_vehicle.specs.models.Customer.{customers}
 use Rattle.sheet_vehicle.specs.models.Problem.{Problem, matrix}
-use Rattle.sheet_vehicle.specs.sheet_text.refusal.declared.Refusal.{Refusal}
-use Rattle.sheet_vehicle.specs.sheet_text.Text.{Reading, map_reading}
-use Rattle.sheet_vehicle.specs.sheet_text.Told.{told_result}
 use Rattle.sheet_roads.specs.sheet_reader.Cells.{Columns}
 use Rattle.sheet_problem.specs.declared.Head.{Head}
 
@@ -17,11 +14,3 @@ problem_in c distances times h =
       roads = matrix h.n (take (h.n * h.n) distances) (take (h.timed * h.timed) times);
       vehicle = h.vehicle;
     }
-
-abbrev pub told_problem : Columns → List Float → List Float → Result (Head × ℕ) Refusal → Reading Problem
-told_problem c distances times r = map_reading (problem_in c distances times) (told_result r)
-
--- where a problem was read it has at most 64 places
-abbrev pub ProblemWithin : Result (Head × ℕ) Refusal → Type 0
-ProblemWithin (Ok (h, i)) = (h.n ≤ 64) × (h.timed ≤ h.n)
-ProblemWithin (Err k) = Unit

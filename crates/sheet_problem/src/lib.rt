@@ -1,17 +1,18 @@
 // Reads the first five sections of a sheet, the problem, into lent slices.
 #![tactic(auto)]
 
-ghost use Rattle.std.specs.Prelude.{◌≡◌, ◌≤◌, length};
+ghost use Rattle.std.specs.Prelude.{◌≡◌, ◌≤◌, length, IfOk};
+ghost use Rattle.sheet_vehicle.specs.sheet_text.Told.{Reads, told_as};
 ghost use Rattle.sheet_vehicle.specs.sheet_format.Form.{whole_problem};
 ghost use Rattle.sheet_roads.specs.sheet_reader.Cells.{columns_of, Room};
-ghost use Rattle.sheet_problem.specs.Told.{told_problem, ProblemWithin};
+ghost use Rattle.sheet_problem.specs.Told.{problem_in};
 
 use sheet_rest::{rest, with_rest};
 use sheet_roads::{roads, sheet_reader_places as places};
 use sheet_vehicle::{Vehicle, vehicle};
 
 // Of the crates below, passed on to those above.
-pub use sheet_vehicle::Refusal;
+pub use sheet_vehicle::{Refusal, Text};
 
 // How many places there are, how many rows of times, and the vehicle.
 #[derive(Clone, Copy)]
@@ -31,20 +32,19 @@ pub fn problem(
     flags: &mut [u8],
     distances: &mut [f64],
     times: &mut [f64],
-    s: &[u8],
-    at: usize,
-) -> Result<(Head, usize), Refusal>
+    text: &mut Text<'_>,
+) -> Result<Head, Refusal>
     requires room { Room 64 (columns_of demand.old service.old ready.old due.old penalty.old flags.old) }
     requires in_bounds { 4096 ≤ length distances.old }
     requires in_bounds_2 { 4096 ≤ length times.old }
-    ensures result_after { told_problem (columns_of demand.new service.new ready.new due.new penalty.new flags.new) distances.new times.new result ≡ whole_problem s.now at }
-    ensures problem_within { ProblemWithin result }
+    ensures read { Reads whole_problem text.old
+        (told_as (problem_in (columns_of demand.new service.new ready.new due.new penalty.new flags.new) distances.new times.new) result) text.new }
+    ensures problem_within { IfOk result (λ h. (h.n ≤ 64) × (h.timed ≤ h.n)) }
 {
-    let (van, i) = vehicle(s, at)?;
-    let (n, j) = places(demand, service, ready, due, penalty, flags, s, i)?;
-    let (timed, l) = roads(distances, times, s, j, n)?;
-    let (pause, e) = rest(s, l)?;
+    let van = vehicle(text)?;
+    let n = places(demand, service, ready, due, penalty, flags, text)?;
+    let timed = roads(distances, times, text, n)?;
+    let pause = rest(text)?;
     let vehicle = with_rest(van, pause);
-    let head = Head { n, timed, vehicle };
-    Ok((head, e))
+    Ok(Head { n, timed, vehicle })
 }

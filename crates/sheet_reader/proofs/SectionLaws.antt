@@ -1,17 +1,14 @@
--- Sections: what a heading says of its count, and what an answer on filled slices says of a reading. Assumes nothing.
+-- Sections: what a heading says of its count. Assumes nothing.
 use Prim.Native.Nat.{ℕ, ◌≤◌}
-use mathlib.Core.Path.{◌≡◌, refl, ap, sym, ◌∙◌, subst}
+use mathlib.Core.Path.{◌≡◌, refl, sym, subst}
 use mathlib.Core.Bool.{Bool, true, false, ◌&&◌}
 use mathlib.Core.List.{List}
 use lib.Dec.{leb}
 use borrow.Author.Tests.{leb-true}
 use Rattle.sheet_cells.specs.sheet_text.Text.{Reading, refused, got, next, check, word, byte, number as text_number, space, lf}
-use Rattle.sheet_cells.specs.sheet_text.refusal.declared.Refusal.{Refusal}
-use Rattle.std.specs.Prelude.{Option, Some, None, Result, Ok, Err}
-use Rattle.std.specs.Result.{IsErrAnd}
-use Rattle.sheet_cells.specs.SheetTextReadLaws.{told}
+use Rattle.sheet_cells.specs.sheet_text.declared.Text.{Text}
+use Rattle.sheet_cells.specs.sheet_text.Told.{Reads}
 use Rattle.sheet_cells.specs.sheet_headings.Heading.{heading}
-use Rattle.sheet_reader.specs.Cells.{AtMost, filled}
 
 -- ---- counts
 
@@ -40,22 +37,5 @@ module _ (least most : ℕ) where
       (λ a i. next_rule (Within least most) (λ m. tt) (byte space s i) (λ b j. next_rule (Within least most) (λ m. tt) (text_number s j) (λ n l. checked n k s l)))
 
 -- a count that was read lies between least and most
-pub count_within : (name : List ℕ) (least most k : ℕ) (s : List ℕ) (at n i : ℕ) → got n i ≡ heading name least most k s at → (least ≤ n) × (n ≤ most)
-count_within name least most k s at n i t = subst (Within least most) (sym t) (all_within least most name k s at)
-
--- a count that was not read is within any bound
-pub no_count : (most : ℕ) (r : Result (ℕ × ℕ) Refusal) (k : Refusal) → IsErrAnd r (λ y. y ≡ k) → AtMost most r
-no_count most (Ok (n, i)) k e = absurd e
-no_count most (Err x) k e = tt
-
--- ---- an answer on filled slices
-
-module _ {S : Type 0} (cells : S) (r : Option ℕ) (p : Reading S) where
-  pub filled_at : (i : ℕ) → r ≡ Some i → filled cells r ≡ p → got cells i ≡ p
-  filled_at i = told (filled cells)
-
-  pub filled_bad : r ≡ None → filled cells r ≡ p → refused 11 ≡ p
-  filled_bad = told (filled cells)
-
-  pub none_filled : r ≡ None → refused 11 ≡ p → filled cells r ≡ p
-  none_filled e g = ap (filled cells) e ∙ g
+pub count_within : (name : List ℕ) (least most k : ℕ) {t u : Text} {n : ℕ} → Reads (heading name least most k) t (got n) u → (least ≤ n) × (n ≤ most)
+count_within name least most k {t} h = subst (Within least most) (sym h.read) (all_within least most name k t.bytes.now t.at)

@@ -1,8 +1,5 @@
 -- How lent slices hold what is read: in their first cells, one after the other. Assumes nothing.
-use Rattle.std.specs.Prelude.{ℕ, ◌≤◌, ◌≡◌, List, [], ◌∷◌, ◌++◌, map, length, take, ℤ, Float, Option, Some, None, Result, Ok, Err}
-use Rattle.sheet_cells.specs.sheet_text.refusal.declared.Refusal.{Refusal}
-use Rattle.sheet_cells.specs.sheet_text.Text.{Reading, refused, got, map_reading}
-use Rattle.sheet_cells.specs.sheet_text.Told.{told_result}
+use Rattle.std.specs.Prelude.{ℕ, ◌≤◌, ◌≡◌, List, [], ◌∷◌, ◌++◌, map, length, take, ℤ, Float}
 use Rattle.sheet_cells.specs.sheet_format.declared.places.Place.{Place}
 use Rattle.sheet_cells.specs.sheet_format.Form.{ready_cell, due_cell, penalty_cell, flags_cell}
 
@@ -75,18 +72,3 @@ pub record Sizes (c first : Columns) : Type 0 where
   pub dues : length c.due ≡ length first.due
   pub penalties : length c.penalty ≡ length first.penalty
   pub flag_cells : length c.flags ≡ length first.flags
-
--- ---- the answers of readers that fill slices: what they were filled with, where they were
-
-abbrev pub filled : {S : Type 0} → S → Option ℕ → Reading S
-filled cells (Some i) = got cells i
-filled cells None = refused 11
-
--- where a count was read it is at most so many
-abbrev pub AtMost : ℕ → Result (ℕ × ℕ) Refusal → Type 0
-AtMost most (Ok (n, i)) = n ≤ most
-AtMost most (Err k) = Unit
-
--- so many places
-abbrev pub filled_places : Columns → Result (ℕ × ℕ) Refusal → Reading Columns
-filled_places c r = map_reading (λ n. first_cells n c) (told_result r)

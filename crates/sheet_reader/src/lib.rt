@@ -1,9 +1,10 @@
-// Reads the places of a sheet into lent slices.
+// Reads the places of a sheet, and the numbers of a line, into lent slices.
 #![tactic(auto)]
 
 pub mod places;
+pub mod rows;
 
 // Of the crates below, passed on to those above.
 pub use sheet_cells::{
-    Refusal, byte, ending, heading, number_before, sheet_text_number, stop_cell,
+    Refusal, Text, byte, ending, heading, number_before, sheet_text_number, stop_cell,
 };

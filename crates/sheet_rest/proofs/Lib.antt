@@ -1,2 +1,2 @@
--- the break's line, where there is one
-pub mod RestLaws
+-- the laws that the readers lean on
+pub mod Readers

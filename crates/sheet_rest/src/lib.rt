@@ -2,48 +2,40 @@
 #![tactic(auto)]
 
 ghost use Rattle.std.specs.Prelude.{◌≡◌};
-ghost use Rattle.sheet_format.specs.sheet_text.Told.{told_option, told_result};
+ghost use Rattle.sheet_format.specs.sheet_text.Told.{Reads, told};
 ghost use Rattle.sheet_format.specs.Form.{rest_line, break, with_rest};
 
-use sheet_format::{Refusal, Vehicle, VehicleBreak, heading, number_before};
+use sheet_format::{Refusal, Text, Vehicle, VehicleBreak, heading, number_before};
 
 // The break's line.
-fn rest_line(s: &[u8], at: usize) -> Option<(Option<VehicleBreak>, usize)>
-    ensures { told_option result ≡ rest_line s.now at }
+#[tactic(auto, using(crate::proofs::Readers::readers), unfolding(sheet_format::specs::Form::rest_line))]
+fn rest_line(text: &mut Text<'_>) -> Result<Option<VehicleBreak>, Refusal>
+    ensures { Reads rest_line text.old (told result) text.new }
 {
-    let (earliest, i) = number_before(s, at, 32)?;
-    let (latest, j) = number_before(s, i, 32)?;
-    let (duration, e) = number_before(s, j, 10)?;
-    let rest = VehicleBreak {
+    let earliest = number_before(text, b' ')?;
+    let latest = number_before(text, b' ')?;
+    let duration = number_before(text, b'\n')?;
+    Ok(Some(VehicleBreak {
         earliest: earliest as f64,
         latest: latest as f64,
         duration: duration as f64,
-    };
-    Some((Some(rest), e))
+    }))
 }
 
 // The section of the break.
-pub fn rest(s: &[u8], at: usize) -> Result<(Option<VehicleBreak>, usize), Refusal>
-    ensures { told_result result ≡ break s.now at }
+pub fn rest(text: &mut Text<'_>) -> Result<Option<VehicleBreak>, Refusal>
+    ensures { Reads break text.old (told result) text.new }
 {
-    let (m, i) = heading(s, at, b"break", 0, 1, Refusal::SheetForm)?;
+    let m = heading(text, b"break", 0, 1, Refusal::SheetForm)?;
     if m == 0 {
-        return Ok((None, i));
+        return Ok(None);
     }
-    rest_line(s, i).ok_or(Refusal::SheetForm)
+    rest_line(text)
 }
 
 // The vehicle with its break.
 pub fn with_rest(v: Vehicle, rest: Option<VehicleBreak>) -> Vehicle
     ensures { result ≡ with_rest v rest }
 {
-    Vehicle {
-        capacity: v.capacity,
-        depot_id: v.depot_id,
-        fixed_cost: v.fixed_cost,
-        cost_per_distance: v.cost_per_distance,
-        max_distance: v.max_distance,
-        max_duration: v.max_duration,
-        rest,
-    }
+    Vehicle { rest, ..v }
 }

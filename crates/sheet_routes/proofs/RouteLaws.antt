@@ -1,22 +1,25 @@
 -- Route lines that are read into lengths and stops. Assumes nothing.
 use Prim.Native.Nat.{ℕ, zero, suc, ◌+◌, ◌-◌, ◌≤◌, ◌<◌}
 use mathlib.Core.Path.{◌≡◌, refl, ap, sym, ◌∙◌, subst}
-use mathlib.Core.List.{List, ◌∷◌, ◌++◌, map, append_assoc, append-nil, map-append}
+use mathlib.Core.List.{List, [], ◌∷◌, ◌++◌, map, append_assoc, append-nil, map-append}
 use native.Mathlib.Omega.{arith}
 use borrow.Author.Tests.{le-leb, lt-leb, leb-true}
 use mathlib.Core.Bool.{Bool, true, false}
 use lib.Dec.{leb}
-use lib.ListN.{length, take, set}
+use lib.ListN.{length, take, drop, set}
 use Rattle.sheet_reader.specs.plan.Plan.{Plan, Slices, flat, lengths_of}
-use Rattle.sheet_reader.specs.sheet_text.Text.{Reading, refused, got, next, check, Parser, map_reading, byte, number, ending, repeat, line}
-use Rattle.std.specs.Prelude.{Result, Ok, Err}
-use Rattle.std.specs.Result.{IsErrAnd}
+use Rattle.std.specs.Prelude.{Result, Ok, Err, IfOk}
 use Rattle.sheet_reader.specs.sheet_text.refusal.declared.Refusal.{Refusal}
 use Rattle.sheet_routes.specs.declared.routes.PlanSize.{PlanSize}
+use borrow.Rule.Slice.PartMut.{put_mid}
+use Rattle.sheet_reader.specs.sheet_text.declared.Text.{Text}
+use Rattle.sheet_reader.specs.sheet_text.Text.{Reading, refused, got, next, check, Parser, byte, number, ending, repeat, line}
+use Rattle.sheet_reader.specs.sheet_text.Told.{Reads, seen}
+use Rattle.sheet_reader.specs.SheetTextReadLaws.{Left, done, passed, failed, seen_got, seen_refused, seen_then, seen_stop, got_of, refused_of, ends, goes_on}
 use Rattle.sheet_reader.specs.sheet_format.Form.{stop_cell, route_line, route_lines, slices_of}
 use Rattle.sheet_reader.specs.Cells.{front}
-use Rattle.sheet_routes.specs.Routes.{PlanWithin, route_behind}
-use Rattle.sheet_reader.proofs.FillLaws.{got_of, refused_of, cell_filled, next_map, map_map, map_same}
+use Rattle.sheet_routes.specs.Routes.{route_behind}
+use Rattle.sheet_reader.proofs.FillLaws.{left_as, one_more, cell_filled, part_length, part_filled}
 use Rattle.sheet_reader.proofs.SectionLaws.{next_rule}
 
 -- ---- a route's line
@@ -35,44 +38,60 @@ all_long {A} (suc k) q s a = next_rule (Long (suc k)) (λ n. tt) (q k s a) (λ v
     last v (refused n) h = tt
     last v (got vs j) h = ap suc h
 
-line_length : (k : ℕ) (s : List ℕ) (a : ℕ) (vs : List ℕ) (j : ℕ) → got vs j ≡ line k s a → length vs ≡ k
-line_length k s a vs j e = subst (Long k) (sym e) (all_long k (λ left t i. next (number t i) (λ v l. next (byte (ending left) t l) (λ u m. got v m))) s a)
+line_length : (k : ℕ) {t u : Text} {vs : List ℕ} → Reads (line k) t (got vs) u → length vs ≡ k
+line_length k {t} h =
+    subst (Long k) (sym h.read) (all_long k (λ left s i. next (number s i) (λ v l. next (byte (ending left) s l) (λ u m. got v m))) t.bytes.now t.at)
 
 -- what stands behind the length is what the line asks for
-pub gap : (s : List ℕ) (i x m : ℕ) (r : Reading (Unit {0})) → x ≡ ending m → r ≡ byte x s i → r ≡ byte (ending m) s i
-gap s i x m r e t = t ∙ ap (λ (y : ℕ). byte y s i) e
+pub gap : {x : ℕ} (m : ℕ) {t u : Text} {said : ℕ → Reading (Unit {0})} → x ≡ ending m → Reads (byte x) t said u → Reads (byte (ending m)) t said u
+gap m {t} {u} {said} e h = subst (λ (y : ℕ). Reads (byte y) t said u) e h
 
-module _ (s : List ℕ) (at used : ℕ) (entry : List ℕ) where
-  abbrev route_read : Reading (ℕ × List ℕ)
-  route_read = map_reading (route_behind used entry) (route_line (64 - used) s at)
+module _ (used : ℕ) (entry : List ℕ) where
+  abbrev route_read : Parser (ℕ × List ℕ)
+  route_read = seen (route_behind used entry) (route_line (64 - used))
 
-  pub no_length : refused 11 ≡ number s at → refused 11 ≡ route_read
+  -- the numbers of as many stops as their part has cells
+  abbrev row : ℕ → Parser (List ℕ)
+  row v = seen (map stop_cell) (line (length (take (used + v - used) (drop used entry))))
+
+  pub no_length : {t u : Text} {n : ℕ} → Reads number t (λ at. refused n) u → Reads route_read t (λ at. refused n) u
   unfolding route_line
-  no_length n = rw (← n)
+  no_length n = seen_stop (route_behind used entry) _ n
 
-  module _ (v i : ℕ) (n : got v i ≡ number s at) where
-    pub too_many : 64 - used < v → refused 12 ≡ route_read
+  module _ {v : ℕ} {t u : Text} (n : Reads number t (got v) u) where
+    pub too_many : 64 - used < v → Reads route_read t (λ at. refused 12) u
     unfolding route_line
-    too_many o = rw (← n, lt-leb v (64 - used) o)
+    too_many o = seen_then (route_behind used entry) _ n (seen_stop (route_behind used entry) _ (failed 12 (lt-leb v (64 - used) o)))
 
     module _ (o : v ≤ 64 - used) where
-      pub no_gap : refused 11 ≡ byte (ending v) s i → refused 11 ≡ route_read
+      pub no_gap : {w : Text} {k : ℕ} → Reads (byte (ending v)) u (λ at. refused k) w → Reads route_read t (λ at. refused k) w
       unfolding route_line
-      no_gap b = rw (← n, le-leb v (64 - used) o, ← b)
+      no_gap b =
+          seen_then (route_behind used entry) _ n
+          (seen_then (route_behind used entry) _ (passed 12 (le-leb v (64 - used) o)) (seen_stop (route_behind used entry) _ b))
 
-      module _ (j : ℕ) (b : got tt j ≡ byte (ending v) s i) where
-        pub no_stops : refused 11 ≡ map_reading (front stop_cell entry used) (line v s j) → refused 11 ≡ route_read
+      module _ {w : Text} (b : Reads (byte (ending v)) u (got tt) w) (room : used + v ≤ length entry) where
+        behind_gap : {said : ℕ → Reading (ℕ × List ℕ)} {x : Text} → Reads (seen (route_behind used entry) (line v)) w said x → Reads route_read t said x
         unfolding route_line
-        no_stops g =
-            let h = refused_of (front stop_cell entry used) (line v s j) g in
-            rw (← n, le-leb v (64 - used) o, ← b, ← h)
+        behind_gap g =
+            seen_then (route_behind used entry) _ n
+            (seen_then (route_behind used entry) _ (passed 12 (le-leb v (64 - used) o)) (seen_then (route_behind used entry) _ b g))
 
-        pub route_got : (exit : List ℕ) (x : ℕ) → got (take (used + v) exit) x ≡ map_reading (front stop_cell entry used) (line v s j) → got (v, take (used + v) exit) x ≡ route_read
-        unfolding route_line
-        route_got exit x g =
-            let h = got_of (front stop_cell entry used) (line v s j) g in
-            let l : length h.0 ≡ v = line_length v s j h.0 x h.1 in
-            rw (← n, le-leb v (64 - used) o, ← b, ← h.1) (ap (λ (k : ℕ). got (k, take (used + v) exit) x) (sym l) ∙ ap (λ (m : List ℕ). got (length h.0, m) x) h.2)
+        same_row : {said : ℕ → Reading (List ℕ)} {x : Text} → Reads (row v) w said x → Reads (seen (map stop_cell) (line v)) w said x
+        same_row {said} {x} g = subst (λ (k : ℕ). Reads (seen (map stop_cell) (line k)) w said x) (part_length entry used v room) g
+
+        pub no_stops : {x : Text} {k : ℕ} → Reads (row v) w (λ at. refused k) x → Reads route_read t (λ at. refused k) x
+        no_stops g = behind_gap (seen_refused (route_behind used entry) (refused_of (map stop_cell) (same_row g)))
+
+        pub route_got : {ys : List ℕ} {x : Text} → length ys ≡ length (take (used + v - used) (drop used entry)) → Reads (row v) w (got ys) x
+            → Reads route_read t (got (v, take (used + v) (put_mid used (used + v - used) entry ys))) x
+        route_got {ys} {x} e g =
+            let h = got_of (map stop_cell) (same_row g) in
+            let l : length h.0 ≡ v = line_length v h.1 in
+            let f : take (used + v) (put_mid used (used + v - used) entry ys) ≡ front stop_cell entry used h.0 = part_filled entry used v ys room e ∙ ap (λ c. take used entry ++ c) h.2 in
+            subst (λ (p : ℕ × List ℕ). Reads route_read t (got p) x)
+            (ap (λ (k : ℕ). (k, front stop_cell entry used h.0)) l ∙ ap (λ (c : List ℕ). (v, c)) (sym f))
+            (behind_gap (seen_got (route_behind used entry) h.1))
 
 -- ---- a route has no more stops than there is room for
 
@@ -94,10 +113,10 @@ all_few room s a = next_rule (Few room) (λ n. tt) (number s a) (λ k i. judged 
         next_rule (Few room) (λ n. tt) (byte (ending k) s i)
         (λ u j. of_long k (leb-true k room e) (line k s j) (all_long k (λ left t m. next (number t m) (λ v l. next (byte (ending left) t l) (λ x y. got v y))) s j))
 
-pub route_few : (s : List ℕ) (a used : ℕ) (ss m : List ℕ) (k j : ℕ) → got (k, m) j ≡ map_reading (route_behind used ss) (route_line (64 - used) s a) → k ≤ 64 - used
-route_few s a used ss m k j g =
-    let x = got_of (route_behind used ss) (route_line (64 - used) s a) g in
-    let f : length x.0 ≤ 64 - used = subst (Few (64 - used)) (sym x.1) (all_few (64 - used) s a) in
+pub route_few : (used : ℕ) (ss : List ℕ) {m : List ℕ} {k : ℕ} {t u : Text} → Reads (seen (route_behind used ss) (route_line (64 - used))) t (got (k, m)) u → k ≤ 64 - used
+route_few used ss {k = k} {t} g =
+    let x = got_of (route_behind used ss) g in
+    let f : length x.0 ≤ 64 - used = subst (Few (64 - used)) (sym x.1.read) (all_few (64 - used) t.bytes.now t.at) in
     let l : k ≡ length x.0 = ap (λ p. p.0) x.2 in
     omega (arith, f, l)
 
@@ -110,10 +129,9 @@ slices ls ss = record { lengths = ls; stops = ss }
 abbrev pub plan_behind : ℕ → List ℕ → ℕ → List ℕ → Plan → Slices
 plan_behind r lengths used stops plan = record { lengths = take r lengths ++ lengths_of plan; stops = front stop_cell stops used (flat plan) }
 
-pub routes_start : (ls ss : List ℕ) (r : Reading Plan) → map_reading slices_of r ≡ map_reading (plan_behind 0 ls 0 ss) r
+pub routes_start : (ls ss : List ℕ) (p : Parser Plan) (t : Text) → Left (seen slices_of p) t (seen (plan_behind 0 ls 0 ss) p) t
 unfolding slices_of
-routes_start ls ss (refused n) = refl
-routes_start ls ss (got plan i) = refl
+routes_start ls ss p t = left_as slices_of (plan_behind 0 ls 0 ss) p t (λ plan. refl)
 
 -- one route more
 routes_more
@@ -133,49 +151,42 @@ routes_more ls ss d r used k v vs o l m =
     ap (λ (x : List ℕ). slices x (take used ss ++ map stop_cell (v ++ flat vs))) a ∙ ap (λ (y : List ℕ). slices (take (r + 1) (set ls r k) ++ lengths_of vs) y) b
 
 module _
-    (s : List ℕ) (w : Reading Slices) (ls ss : List ℕ) (r used a left : ℕ)
-    (e : w ≡ map_reading (plan_behind r ls used ss) (route_lines left (64 - used) s a))
+    (ls ss : List ℕ) (r used left : ℕ) {whole : Parser Slices} {old t : Text}
+    (l : Left whole old (seen (plan_behind r ls used ss) (route_lines left (64 - used))) t)
   where
-    pub routes_end : (n : ℕ) → r ≡ n → left ≤ 0 → got (record { lengths = take n ls; stops = take used ss }) a ≡ w
+    pub routes_end : (n : ℕ) → r ≡ n → left ≤ 0 → Reads whole old (got (record { lengths = take n ls; stops = take used ss })) t
     unfolding route_lines flat
     routes_end n o h =
         let z : left ≡ 0 = omega arith in
-        rw (← o, ← append-nil (take r ls), ← append-nil (take used ss)) (sym (e ∙ ap (λ (k : ℕ). map_reading (plan_behind r ls used ss) (route_lines k (64 - used) s a)) z))
+        rw (← o, ← append-nil (take r ls), ← append-nil (take used ss))
+        (ends (subst (λ (k : ℕ). Left whole old (seen (plan_behind r ls used ss) (route_lines k (64 - used))) t) z l) (done (plan_behind r ls used ss []) t))
 
     module _ (m : ℕ) (h : left ≡ suc m) where
-      pub routes_fault : (n : ℕ) → refused n ≡ map_reading (route_behind used ss) (route_line (64 - used) s a) → refused n ≡ w
+      open_left : Left whole old (seen (plan_behind r ls used ss) (route_lines (suc m) (64 - used))) t
+      open_left = subst (λ (k : ℕ). Left whole old (seen (plan_behind r ls used ss) (route_lines k (64 - used))) t) h l
+
+      pub routes_fault : {n : ℕ} {u : Text} → Reads (seen (route_behind used ss) (route_line (64 - used))) t (λ at. refused n) u → Reads whole old (λ at. refused n) u
       unfolding route_lines
-      routes_fault n g =
-          let f = refused_of (route_behind used ss) (route_line (64 - used) s a) g in
-          sym (e ∙ ap (λ (k : ℕ). map_reading (plan_behind r ls used ss) (route_lines k (64 - used) s a)) h ∙ rw (← f))
+      routes_fault g = ends open_left (seen_stop (plan_behind r ls used ss) _ (refused_of (route_behind used ss) g))
 
       pub routes_turn
-          : r < length ls
-          → (k j : ℕ) (d : List ℕ)
-          → got (k, take (used + k) d) j ≡ map_reading (route_behind used ss) (route_line (64 - used) s a)
-          → w ≡ map_reading (plan_behind (r + 1) (set ls r k) (used + k) d) (route_lines m (64 - (used + k)) s j)
+          : {k : ℕ} (d : List ℕ) {u : Text}
+          → r < length ls
+          → Reads (seen (route_behind used ss) (route_line (64 - used))) t (got (k, take (used + k) d)) u
+          → Left whole old (seen (plan_behind (r + 1) (set ls r k) (used + k) d) (route_lines m (64 - (used + k)))) u
       unfolding route_lines flat
-      routes_turn o k j d g =
-          let x = got_of (route_behind used ss) (route_line (64 - used) s a) g in
+      routes_turn {k} d {u} o g =
+          let x = got_of (route_behind used ss) g in
           let l : k ≡ length x.0 = ap (λ p. p.0) x.2 in
-          let t : take (used + k) d ≡ take used ss ++ map stop_cell x.0 = ap (λ p. p.1) x.2 in
+          let f : take (used + k) d ≡ take used ss ++ map stop_cell x.0 = ap (λ p. p.1) x.2 in
           let y : 64 - used - length x.0 ≡ 64 - (used + k) = omega (arith, l) in
-          e
-          ∙ ap (λ (i : ℕ). map_reading (plan_behind r ls used ss) (route_lines i (64 - used) s a)) h
-          ∙ ap (λ q. map_reading (plan_behind r ls used ss) (next q (λ v i. next (route_lines m (64 - used - length v) s i) (λ vs z. got (v ∷ vs) z)))) (sym x.1)
-          ∙ ap (map_reading (plan_behind r ls used ss)) (next_map (λ vs. x.0 ∷ vs) (route_lines m (64 - used - length x.0) s j))
-          ∙ ap (λ (i : ℕ). map_reading (plan_behind r ls used ss) (map_reading (λ vs. x.0 ∷ vs) (route_lines m i s j))) y
-          ∙ map_map (plan_behind r ls used ss) (λ vs. x.0 ∷ vs) (route_lines m (64 - (used + k)) s j)
-          ∙ map_same (λ vs. plan_behind r ls used ss (x.0 ∷ vs)) (plan_behind (r + 1) (set ls r k) (used + k) d) (route_lines m (64 - (used + k)) s j)
-          (λ vs. routes_more ls ss d r used k x.0 vs o l t)
+          goes_on open_left _
+          (subst (λ (i : ℕ). Left (seen (plan_behind r ls used ss) (route_lines (suc m) (64 - used))) t (seen (plan_behind (r + 1) (set ls r k) (used + k) d) (route_lines m i)) u) y
+          (one_more (plan_behind r ls used ss) (plan_behind (r + 1) (set ls r k) (used + k) d) (route_line (64 - used)) (λ v. route_lines m (64 - used - length v)) x.1
+          (λ vs. routes_more ls ss d r used k x.0 vs o l f)))
 
 -- ---- the bounds of a plan that was read
 
-pub plan_within : (n m : ℕ) (r : Result (PlanSize × ℕ) Refusal) → PlanWithin n r → n ≤ m → PlanWithin m r
-plan_within n m (Ok (p, i)) w h = (omega (arith, w.0, h), w.1)
-plan_within n m (Err k) w h = tt
-
--- a plan that was not read is within any bound
-pub no_plan : (most : ℕ) (r : Result (PlanSize × ℕ) Refusal) (k : Refusal) → IsErrAnd r (λ y. y ≡ k) → PlanWithin most r
-no_plan most (Ok (p, i)) k e = absurd e
-no_plan most (Err x) k e = tt
+pub within_more : (n m : ℕ) (r : Result PlanSize Refusal) → n ≤ m → IfOk r (λ p. (p.given ≤ n) × (p.used ≤ 64)) → IfOk r (λ p. (p.given ≤ m) × (p.used ≤ 64))
+within_more n m (Ok p) h w = (omega (arith, w.0, h), w.1)
+within_more n m (Err k) h w = tt

@@ -1,13 +1,11 @@
 // The section of the routes.
-ghost use Rattle.std.specs.Prelude.{◌≡◌, ◌+◌, ◌-◌, ◌≤◌, length, take};
-ghost use Rattle.sheet_reader.specs.sheet_text.Text.{map_reading, line};
-ghost use Rattle.sheet_reader.specs.sheet_format.Form.{stop_cell as Form·stop-cell, route_line, route_lines, routes as Form·routes, slices_of};
-ghost use Rattle.sheet_reader.specs.Cells.{front, filled};
-ghost use Rattle.sheet_routes.specs.Routes.{route_behind, filled_route, filled_plan, PlanWithin};
+ghost use Rattle.std.specs.Prelude.{◌≡◌, ◌+◌, ◌-◌, ◌≤◌, length, take, IfOk};
+ghost use Rattle.sheet_reader.specs.sheet_text.Told.{Reads, told_as, seen};
+ghost use Rattle.sheet_reader.specs.sheet_format.Form.{route_line, route_lines, routes as Form·routes, slices_of};
+ghost use Rattle.sheet_routes.specs.Routes.{route_behind, plan_in};
 
-use sheet_reader::{
-    Refusal, byte, ending, heading, number_before, sheet_text_number as number, stop_cell,
-};
+use sheet_reader::rows::number_row;
+use sheet_reader::{Refusal, Text, byte, ending, heading, sheet_text_number as number, stop_cell};
 
 // How many routes there are, and how many stops in all.
 #[derive(Clone, Copy)]
@@ -16,74 +14,54 @@ pub struct PlanSize {
     pub used: usize,
 }
 
-// The k stops that end a line, into the cells from base on.
-fn stop_row(cells: &mut [u16], base: usize, s: &[u8], at: usize, k: usize) -> Option<usize>
-    requires { base + k ≤ length cells.old }
-    ensures { filled (take (base + k) cells.new) result ≡ map_reading (front Form·stop-cell cells.old base) (line k s.now at) }
-{
-    let mut a = at;
-    for i in 0..k {
-        let e = ending(k - i - 1);
-        let (v, j) = number_before(s, a, e)?;
-        cells[base + i] = stop_cell(v);
-        a = j;
-    }
-    Some(a)
-}
-
 // A route's line: its stops into the cells behind those that are used. Row 12 is judged as soon as its length is read.
-fn route_row(stops: &mut [u16], used: usize, s: &[u8], at: usize) -> Result<(usize, usize), Refusal>
+fn route_row(stops: &mut [u16], used: usize, text: &mut Text<'_>) -> Result<usize, Refusal>
     requires used_bound { used ≤ 64 }
     requires in_bounds { 64 ≤ length stops.old }
-    ensures { filled_route used stops.new result ≡ map_reading (route_behind used stops.old) (route_line (64 - used) s.now at) }
+    ensures { Reads (seen (route_behind used stops.old) (route_line (64 - used))) text.old (told_as (λ k. (k, take (used + k) stops.new)) result)
+        text.new }
 {
-    let (v, i) = number(s, at).ok_or(Refusal::SheetForm)?;
-    let k = v as usize;
+    let k = number(text)? as usize;
     if k > 64 - used {
         return Err(Refusal::SheetSizes);
     }
-    let e = ending(k);
-    let j = byte(s, i, e).ok_or(Refusal::SheetForm)?;
-    let x = stop_row(stops, used, s, j, k).ok_or(Refusal::SheetForm)?;
-    Ok((k, x))
+    byte(text, ending(k))?;
+    number_row(&mut stops[used..used + k], text, stop_cell)?;
+    Ok(k)
 }
 
 // n route lines: lengths into the first cells of their slice, the stops one behind the other.
 fn route_rows(
     lengths: &mut [u16],
     stops: &mut [u16],
-    s: &[u8],
-    at: usize,
+    text: &mut Text<'_>,
     n: usize,
-) -> Result<(PlanSize, usize), Refusal>
+) -> Result<PlanSize, Refusal>
     requires n_in_bounds { n ≤ length lengths.old }
     requires in_bounds { 64 ≤ length stops.old }
-    ensures result_after { filled_plan lengths.new stops.new result ≡ map_reading slices_of (route_lines n 64 s.now at) }
-    ensures plan_within { PlanWithin n result }
+    ensures read { Reads (seen slices_of (route_lines n 64)) text.old (told_as (plan_in lengths.new stops.new) result) text.new }
+    ensures plan_within { IfOk result (λ p. (p.given ≤ n) × (p.used ≤ 64)) }
 {
-    let mut a = at;
     let mut used: usize = 0;
     for r in 0..n {
-        let (k, j) = route_row(stops, used, s, a)?;
+        let k = route_row(stops, used, text)?;
         lengths[r] = k as u16;
         used += k;
-        a = j;
     }
-    Ok((PlanSize { given: n, used }, a))
+    Ok(PlanSize { given: n, used })
 }
 
 // The section of the routes.
 pub fn routes(
     lengths: &mut [u16],
     stops: &mut [u16],
-    s: &[u8],
-    at: usize,
-) -> Result<(PlanSize, usize), Refusal>
+    text: &mut Text<'_>,
+) -> Result<PlanSize, Refusal>
     requires in_bounds { 64 ≤ length lengths.old }
     requires in_bounds_2 { 64 ≤ length stops.old }
-    ensures result_after { filled_plan lengths.new stops.new result ≡ map_reading slices_of (Form·routes s.now at) }
-    ensures plan_within { PlanWithin 64 result }
+    ensures read { Reads (seen slices_of Form·routes) text.old (told_as (plan_in lengths.new stops.new) result) text.new }
+    ensures plan_within { IfOk result (λ p. (p.given ≤ 64) × (p.used ≤ 64)) }
 {
-    let (n, i) = heading(s, at, b"routes", 0, 64, Refusal::SheetSizes)?;
-    route_rows(lengths, stops, s, i, n)
+    let n = heading(text, b"routes", 0, 64, Refusal::SheetSizes)?;
+    route_rows(lengths, stops, text, n)
 }

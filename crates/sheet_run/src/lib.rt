@@ -2,13 +2,12 @@
 #![tactic(auto)]
 
 ghost use Rattle.std.specs.Prelude.{◌≡◌};
-ghost use Rattle.sheet_format.specs.sheet_text.Told.{told_option};
-ghost use Rattle.sheet_format.specs.sheet_text.Text.{map_reading};
+ghost use Rattle.sheet_format.specs.sheet_text.Told.{Reads, told_as};
 ghost use Rattle.sheet_format.specs.Form.{run_line, last_run};
 ghost use Rattle.sheet_format.specs.Form.{run as Form·run};
-ghost use Rattle.sheet_run.specs.Run.{told_run, run_of};
+ghost use Rattle.sheet_run.specs.Run.{run_of};
 
-use sheet_format::{Refusal, heading, number_before};
+use sheet_format::{Refusal, Text, heading, number_before};
 
 // M, the step limit, and K, the clock.
 #[derive(Clone, Copy)]
@@ -18,33 +17,35 @@ pub struct RunLine {
 }
 
 // The line of M and K.
-fn run_line(s: &[u8], at: usize) -> Option<(RunLine, usize)>
-    ensures { map_reading run_of (told_option result) ≡ run_line s.now at }
+#[tactic(auto, using(crate::proofs::Readers::readers), unfolding(sheet_format::specs::Form::run_line))]
+fn run_line(text: &mut Text<'_>) -> Result<RunLine, Refusal>
+    ensures { Reads run_line text.old (told_as run_of result) text.new }
 {
-    let (m, i) = number_before(s, at, 32)?;
-    let (k, j) = number_before(s, i, 10)?;
-    let run = RunLine {
+    let m = number_before(text, b' ')?;
+    let k = number_before(text, b'\n')?;
+    Ok(RunLine {
         limit: m as usize,
         clock: k as u64,
-    };
-    Some((run, j))
+    })
 }
 
 // The section of the run.
-fn run(s: &[u8], at: usize) -> Result<(RunLine, usize), Refusal>
-    ensures { told_run result ≡ Form·run s.now at }
+#[tactic(auto, using(crate::proofs::Readers::readers), unfolding(sheet_format::specs::Form::run))]
+fn run(text: &mut Text<'_>) -> Result<RunLine, Refusal>
+    ensures { Reads Form·run text.old (told_as run_of result) text.new }
 {
-    let (_, i) = heading(s, at, b"run", 1, 1, Refusal::SheetForm)?;
-    run_line(s, i).ok_or(Refusal::SheetForm)
+    heading(text, b"run", 1, 1, Refusal::SheetForm)?;
+    run_line(text)
 }
 
 // The section of the run, behind which nothing follows.
-pub fn last_run(s: &[u8], at: usize) -> Result<(RunLine, usize), Refusal>
-    ensures { told_run result ≡ last_run s.now at }
+#[tactic(auto, using(crate::proofs::Readers::readers), unfolding(sheet_format::specs::Form::last_run))]
+pub fn last_run(text: &mut Text<'_>) -> Result<RunLine, Refusal>
+    ensures { Reads last_run text.old (told_as run_of result) text.new }
 {
-    let (r, i) = run(s, at)?;
-    if i == s.len() {
-        Ok((r, i))
+    let run = run(text)?;
+    if text.at == text.bytes.len() {
+        Ok(run)
     } else {
         Err(Refusal::SheetForm)
     }

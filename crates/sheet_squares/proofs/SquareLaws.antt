@@ -1,26 +1,28 @@
 -- Rows of numbers that are read one behind the other. Assumes nothing.
-use Prim.Native.Nat.{ℕ, ◌*◌, ◌≤◌, suc, ◌+◌, ◌<◌}
-use mathlib.Core.Path.{◌≡◌, refl, ap, sym, ◌∙◌}
+use Prim.Native.Nat.{ℕ, ◌*◌, ◌≤◌, suc, ◌+◌, ◌-◌, ◌<◌}
+use mathlib.Core.Path.{◌≡◌, refl, ap, sym, ◌∙◌, subst}
 use mathlib.Core.List.{List, ◌++◌, map, append_assoc, append-nil, map-append}
-use lib.ListN.{take}
+use lib.ListN.{length, take, drop}
+use borrow.Rule.Slice.PartMut.{put_mid}
 use lib.Ieee.{Float}
 use native.Mathlib.Omega.{arith}
 use native.Mathlib.Nat.{suc-mul, mul-le-mul}
 use native.Mathlib.Numerals.{add-one}
 use Rattle.sheet_reader.specs.floats.Whole.{nat}
 use Rattle.sheet_reader.specs.plan.Plan.{flat}
-use Rattle.sheet_reader.specs.sheet_text.Text.{Reading, refused, got, map_reading, repeat, line}
+use Rattle.sheet_reader.specs.sheet_text.declared.Text.{Text}
+use Rattle.sheet_reader.specs.sheet_text.Text.{Reading, refused, got, Parser, repeat, line}
+use Rattle.sheet_reader.specs.sheet_text.Told.{Reads, seen}
+use Rattle.sheet_reader.specs.SheetTextReadLaws.{Left, got_of, refused_of}
 use Rattle.sheet_reader.specs.sheet_format.Form.{row_by_row}
-use Rattle.sheet_reader.proofs.FillLaws.{got_of, refused_of, fill_end, fill_fault, fill_turn}
-use Rattle.sheet_reader.specs.Cells.{front}
+use Rattle.sheet_reader.proofs.FillLaws.{left_as, fill_end, fill_fault, fill_turn, part_length, part_filled}
 
 -- what the cells hold if the first p are filled and these rows come behind
 abbrev pub rows_behind : List Float → ℕ → List (List ℕ) → List Float
 rows_behind cells p rows = take p cells ++ row_by_row rows
 
-pub rows_start : (cells : List Float) (r : Reading (List (List ℕ))) → map_reading row_by_row r ≡ map_reading (rows_behind cells 0) r
-rows_start cells (refused n) = refl
-rows_start cells (got rows i) = refl
+pub rows_start : (cells : List Float) (p : Parser (List (List ℕ))) (t : Text) → Left (seen row_by_row p) t (seen (rows_behind cells 0) p) t
+rows_start cells p t = left_as row_by_row (rows_behind cells 0) p t (λ rows. refl)
 
 -- one row more
 pub row_more : (row n : ℕ) → (row + 1) * n ≡ row * n + n
@@ -32,19 +34,30 @@ row_room row n h =
     let k : n ≤ n = omega arith in
     omega (arith, mul-le-mul l k, row_more row n)
 
-module _ (n : ℕ) (s : List ℕ) (w : Reading (List Float)) (cells : List Float) (p a left : ℕ) (e : w ≡ map_reading (rows_behind cells p) (repeat left (λ l. line n) s a)) where
-  pub rows_end : (m : ℕ) → p ≡ m → left ≤ 0 → got (take m cells) a ≡ w
+module _ (n : ℕ) (cells : List Float) (p left : ℕ) {whole : Parser (List Float)} {old t : Text} (l : Left whole old (seen (rows_behind cells p) (repeat left (λ l. line n))) t) where
+  pub rows_end : (m : ℕ) → p ≡ m → left ≤ 0 → Reads whole old (got (take m cells)) t
   unfolding flat
-  rows_end m z h = ap (λ (k : ℕ). got (take k cells) a) (sym z) ∙ ap (λ l. got l a) (sym (append-nil (take p cells))) ∙ fill_end (λ l. line n) s w (rows_behind cells p) a left e h
+  rows_end m z h =
+      rw (← z) (subst (λ (c : List Float). Reads whole old (got c) t) (append-nil (take p cells)) (fill_end (λ l. line n) (rows_behind cells p) left l h))
 
   module _ (m : ℕ) (h : left ≡ suc m) where
-    pub rows_fault : refused 11 ≡ map_reading (front nat cells p) (line n s a) → refused 11 ≡ w
-    rows_fault g = fill_fault (λ l. line n) s w (rows_behind cells p) a left e m h 11 (refused_of (front nat cells p) (line n s a) g)
+    -- the line of as many numbers as its part has cells
+    abbrev row : Parser (List Float)
+    row = seen (map nat) (line (length (take (p + n - p) (drop p cells))))
 
-    pub rows_turn : (q : ℕ) → q ≡ p + n → (d : List Float) (j : ℕ) → got (take (p + n) d) j ≡ map_reading (front nat cells p) (line n s a) → w ≡ map_reading (rows_behind d q) (repeat m (λ l. line n) s j)
-    unfolding flat
-    rows_turn q o d j g =
-        let x = got_of (front nat cells p) (line n s a) g in
-        rw o
-        (fill_turn (λ l. line n) s w (rows_behind cells p) a left e m h (rows_behind d (p + n)) x.0 j x.1
-        (λ rows. ap (λ l. take p cells ++ l) (map-append nat x.0 (flat rows)) ∙ sym (append_assoc (take p cells) (map nat x.0) (row_by_row rows)) ∙ ap (λ l. l ++ row_by_row rows) (sym x.2)))
+    module _ (room : p + n ≤ length cells) where
+      same_row : {said : ℕ → Reading (List Float)} {u : Text} → Reads row t said u → Reads (seen (map nat) (line n)) t said u
+      same_row {said} {u} g = subst (λ (k : ℕ). Reads (seen (map nat) (line k)) t said u) (part_length cells p n room) g
+
+      pub rows_fault : {k : ℕ} {u : Text} → Reads row t (λ at. refused k) u → Reads whole old (λ at. refused k) u
+      rows_fault g = fill_fault (λ l. line n) (rows_behind cells p) left l m h (refused_of (map nat) (same_row g))
+
+      pub rows_turn : (q : ℕ) → q ≡ p + n → {ys : List Float} {u : Text} → length ys ≡ length (take (p + n - p) (drop p cells)) → Reads row t (got ys) u
+          → Left whole old (seen (rows_behind (put_mid p (p + n - p) cells ys) q) (repeat m (λ l. line n))) u
+      unfolding flat
+      rows_turn q o {ys = ys} e g =
+          let x = got_of (map nat) (same_row g) in
+          let f : take (p + n) (put_mid p (p + n - p) cells ys) ≡ take p cells ++ map nat x.0 = part_filled cells p n ys room e ∙ ap (λ l. take p cells ++ l) x.2 in
+          rw o
+          (fill_turn (λ l. line n) (rows_behind cells p) left l m h (rows_behind (put_mid p (p + n - p) cells ys) (p + n)) x.1
+          (λ rows. ap (λ l. take p cells ++ l) (map-append nat x.0 (flat rows)) ∙ sym (append_assoc (take p cells) (map nat x.0) (row_by_row rows)) ∙ ap (λ l. l ++ row_by_row rows) (sym f)))

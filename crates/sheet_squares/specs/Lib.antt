@@ -7,5 +7,3 @@ pub use Rattle.sheet_reader.specs.sheet_format as sheet_format
 pub use Rattle.sheet_reader.specs as sheet_reader
 -- and their laws
 pub use Rattle.sheet_reader.specs.SheetTextReadLaws as SheetTextReadLaws
-pub use Rattle.sheet_reader.proofs.FillLaws as SheetReaderFillLaws
-pub use Rattle.sheet_reader.proofs.SectionLaws as SheetReaderSectionLaws

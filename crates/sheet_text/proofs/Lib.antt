@@ -1,5 +1,5 @@
 -- What the readers of tokens and words lean on.
--- a reading, and what the code answers of it
+-- what was read, and what is read behind it
 pub mod ReadLaws
--- digits, numbers and words
+-- digits and words
 pub mod TextLaws

@@ -1,27 +1,29 @@
 -- What the answers of the readers in code mean: the refusal's number, or the value and the position after it. Assumes nothing.
-use Rattle.std.specs.Prelude.{ℕ, ◌<◌}
-use Rattle.std.specs.Prelude.{Option, None, Some}
+use Rattle.std.specs.Prelude.{ℕ, ◌≡◌}
 use Rattle.std.specs.Prelude.{Result, Ok, Err}
 use Rattle.refusal.specs.Number.{number}
 use Rattle.refusal.specs.declared.Refusal.{Refusal}
-use Rattle.sheet_text.specs.Text.{Reading, refused, got}
+use Rattle.sheet_text.specs.Text.{Reading, refused, got, map_reading, Parser}
+use Rattle.sheet_text.specs.declared.Text.{Text}
 
--- a position, where nothing is to be told but that it was reached; none is a fault of the form
-abbrev pub told_next : Option ℕ → Reading (Unit {0})
-told_next (Some i) = got tt i
-told_next None = refused 11
+-- a value, the position after it being known, or why it is refused
+abbrev pub told : {A : Type 0} → Result A Refusal → ℕ → Reading A
+told (Ok a) at = got a at
+told (Err r) at = refused (number r)
 
--- a value and the position after it; none is a fault of the form
-abbrev pub told_option : {A : Type 0} → Option (A × ℕ) → Reading A
-told_option (Some (a, i)) = got a i
-told_option None = refused 11
+-- the same, seen through a function
+abbrev pub told_as : {A B : Type 0} → (A → B) → Result A Refusal → ℕ → Reading B
+told_as f r at = map_reading f (told r at)
 
--- the same, or why it is refused
-abbrev pub told_result : {A : Type 0} → Result (A × ℕ) Refusal → Reading A
-told_result (Ok (a, i)) = got a i
-told_result (Err r) = refused (number r)
+-- what was read before, read from nothing
+abbrev pub given : {A : Type 0} → Result A Refusal → Parser A
+given r s at = told r at
 
--- the value, where there is one, has at most nine digits
-abbrev pub Short : Option (ℕ × ℕ) → Type 0
-Short (Some (v, i)) = v < 1000000000
-Short None = Unit
+-- what p reads, seen through a function
+abbrev pub seen : {A B : Type 0} → (A → B) → Parser A → Parser B
+seen f p s at = map_reading f (p s at)
+
+-- From where the text stood to where it stands: what p reads there is what is told, and the bytes are the same.
+pub record Reads {A : Type 0} (p : Parser A) (old : Text) (said : ℕ → Reading A) (new : Text) : Type 0 where
+  pub read : said new.at ≡ p old.bytes.now old.at
+  pub same : new.bytes.now ≡ old.bytes.now

@@ -1,41 +1,55 @@
-// Bytes and numbers at a position.
-ghost use Rattle.std.specs.Prelude.{◌≡◌, ◌+◌, ◌<◌, ◌^◌};
+// Bytes and numbers.
+ghost use Rattle.std.specs.Prelude.{◌≡◌, ◌+◌, ◌<◌, ◌^◌, IfOk};
 ghost use Rattle.sheet_text.specs.Text.{got, byte_at, is_end};
 ghost use Rattle.sheet_text.specs.Text.{byte as Text·byte, digits as Text·digits, number as Text·number};
-ghost use Rattle.sheet_text.specs.Told.{told_next, told_option, Short};
+ghost use Rattle.sheet_text.specs.Told.{Reads, told};
 
-// The byte at a position, 256 at the end of the text.
-pub fn peek(s: &[u8], at: usize) -> u16
-    ensures value { result ≡ byte_at s.now at }
-    ensures at_bound { result < 256 → at + 1 < 2 ^ 64 }
+use crate::Text;
+use refusal::Refusal;
+
+// The byte that comes next, 256 at the end of the text.
+pub fn peek(text: &Text<'_>) -> u16
+    ensures value { result ≡ byte_at text.now.bytes.now text.now.at }
+    ensures at_bound { result < 256 → text.now.at + 1 < 2 ^ 64 }
 {
-    if at < s.len() { s[at] as u16 } else { 256 }
+    let bytes = text.bytes;
+    let at = text.at;
+    if at < bytes.len() {
+        bytes[at] as u16
+    } else {
+        256
+    }
 }
 
 // One given byte.
-pub fn byte(s: &[u8], at: usize, b: u8) -> Option<usize>
-    ensures { told_next result ≡ Text·byte b s.now at }
+#[tactic(auto, unfolding(crate::specs::Text::byte))]
+pub fn byte(text: &mut Text<'_>, b: u8) -> Result<(), Refusal>
+    ensures { Reads (Text·byte b) text.old (told result) text.new }
 {
-    let x = peek(s, at);
-    if x == b as u16 { Some(at + 1) } else { None }
+    let x = peek(text);
+    if x == b as u16 {
+        text.at += 1;
+        Ok(())
+    } else {
+        Err(Refusal::SheetForm)
+    }
 }
 
-// The value of the digits from a position on, at most 9 of them, and the position after them.
-fn digits(s: &[u8], at: usize) -> (u32, usize)
-    ensures at_value { got result.0 result.1 ≡ Text·digits 9 0 s.now at }
-    ensures value_bound { result.0 < 1000000000 }
+// The value of the digits that come next, at most 9 of them.
+fn digits(text: &mut Text<'_>) -> u32
+    ensures read { Reads (Text·digits 9 0) text.old (got result) text.new }
+    ensures value_bound { result < 1000000000 }
 {
     let mut v: u32 = 0;
-    let mut i = at;
     for _k in 0..9usize {
-        let b = peek(s, i);
+        let b = peek(text);
         if b < 48 || b > 57 {
             break;
         }
         v = v * 10 + (b - 48) as u32;
-        i += 1;
+        text.at += 1;
     }
-    (v, i)
+    v
 }
 
 // Whether a token ends before x: a space, LF or the end of the text.
@@ -46,15 +60,20 @@ pub fn is_end(x: u16) -> bool
 }
 
 // 1 to 9 digits, behind which the token ends.
-pub fn number(s: &[u8], at: usize) -> Option<(u32, usize)>
-    ensures result_value { told_option result ≡ Text·number s.now at }
-    ensures short { Short result }
+#[tactic(auto, using(crate::proofs::ReadLaws::reads, crate::proofs::TextLaws::digit_tests), unfolding(crate::specs::Text::number))]
+pub fn number(text: &mut Text<'_>) -> Result<u32, Refusal>
+    ensures read { Reads Text·number text.old (told result) text.new }
+    ensures short { IfOk result (λ v. v < 1000000000) }
 {
-    let b = peek(s, at);
+    let b = peek(text);
     if b < 48 || b > 57 {
-        return None;
+        return Err(Refusal::SheetForm);
     }
-    let (v, end) = digits(s, at);
-    let e = peek(s, end);
-    if is_end(e) { Some((v, end)) } else { None }
+    let v = digits(text);
+    let e = peek(text);
+    if is_end(e) {
+        Ok(v)
+    } else {
+        Err(Refusal::SheetForm)
+    }
 }

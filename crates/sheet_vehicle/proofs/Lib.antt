@@ -1,2 +1,2 @@
--- a vehicle that is handed on
-pub mod VehicleLaws
+-- the laws that the readers lean on
+pub mod Readers

@@ -2,7 +2,7 @@
 #![tactic(auto)]
 
 ghost use Rattle.std.specs.Prelude.{◌≡◌};
-ghost use Rattle.sheet_format.specs.sheet_text.Told.{told_option, told_result};
+ghost use Rattle.sheet_format.specs.sheet_text.Told.{Reads, told};
 ghost use Rattle.sheet_format.specs.Form.{limit as Form·limit, vehicle_line};
 ghost use Rattle.sheet_format.specs.Form.{vehicle as Form·vehicle};
 
@@ -10,33 +10,35 @@ use sheet_format::places::float_of;
 use sheet_format::{heading, number_before, optional_before, signed_before};
 
 // Of the crates below, passed on to those above.
-pub use sheet_format::{Refusal, Vehicle};
+pub use sheet_format::{Refusal, Text, Vehicle};
 
 // Every sheet's depot.
 const DEPOT: u32 = 0;
 
 // A limit, and the byte behind it.
-fn limit(s: &[u8], at: usize, b: u8) -> Option<(Option<f64>, usize)>
-    ensures { told_option result ≡ Form·limit b s.now at }
+#[tactic(auto, using(crate::proofs::Readers::readers), unfolding(sheet_format::specs::Form::limit))]
+fn limit(text: &mut Text<'_>, b: u8) -> Result<Option<f64>, Refusal>
+    ensures { Reads (Form·limit b) text.old (told result) text.new }
 {
-    let (most, i) = optional_before(s, at, b)?;
-    Some((float_of(most), i))
+    let most = optional_before(text, b)?;
+    Ok(float_of(most))
 }
 
 // The vehicle's line.
-fn vehicle_line(s: &[u8], at: usize) -> Option<(Vehicle, usize)>
-    ensures { told_option result ≡ vehicle_line s.now at }
+#[tactic(auto, using(crate::proofs::Readers::readers), unfolding(sheet_format::specs::Form::vehicle_line))]
+fn vehicle_line(text: &mut Text<'_>) -> Result<Vehicle, Refusal>
+    ensures { Reads vehicle_line text.old (told result) text.new }
 {
-    let (capacity, i) = signed_before(s, at, 32)?;
-    let (depot, j) = number_before(s, i, 32)?;
+    let capacity = signed_before(text, b' ')?;
+    let depot = number_before(text, b' ')?;
     if depot != DEPOT {
-        return None;
+        return Err(Refusal::SheetForm);
     }
-    let (fixed, k) = number_before(s, j, 32)?;
-    let (per, l) = number_before(s, k, 32)?;
-    let (max_distance, m) = limit(s, l, 32)?;
-    let (max_duration, e) = limit(s, m, 10)?;
-    let vehicle = Vehicle {
+    let fixed = number_before(text, b' ')?;
+    let per = number_before(text, b' ')?;
+    let max_distance = limit(text, b' ')?;
+    let max_duration = limit(text, b'\n')?;
+    Ok(Vehicle {
         capacity,
         depot_id: 0,
         fixed_cost: fixed as f64,
@@ -44,14 +46,14 @@ fn vehicle_line(s: &[u8], at: usize) -> Option<(Vehicle, usize)>
         max_distance,
         max_duration,
         rest: None,
-    };
-    Some((vehicle, e))
+    })
 }
 
 // The section of the vehicle.
-pub fn vehicle(s: &[u8], at: usize) -> Result<(Vehicle, usize), Refusal>
-    ensures { told_result result ≡ Form·vehicle s.now at }
+#[tactic(auto, using(crate::proofs::Readers::readers), unfolding(sheet_format::specs::Form::vehicle))]
+pub fn vehicle(text: &mut Text<'_>) -> Result<Vehicle, Refusal>
+    ensures { Reads Form·vehicle text.old (told result) text.new }
 {
-    let (_, i) = heading(s, at, b"vehicle", 1, 1, Refusal::SheetForm)?;
-    vehicle_line(s, i).ok_or(Refusal::SheetForm)
+    heading(text, b"vehicle", 1, 1, Refusal::SheetForm)?;
+    vehicle_line(text)
 }

@@ -3,14 +3,17 @@ use Rattle.std.specs.Prelude.{Result, Ok, Err}
 use Rattle.std.specs.Result.{IsErrAnd}
 use Rattle.sheet_draws.specs.sheet_text.refusal.declared.Refusal.{Refusal}
 use Rattle.sheet_whole.specs.declared.parts.Sheet.{Sheet as SheetRead}
-use Rattle.sheet_whole.specs.Whole.{SheetWithin}
+use Rattle.std.proofs.lemmas.Result.{err_from_is_err_and}
+use Rattle.sheet_draws.specs.sheet_text.refusal.Number.{number}
+use Rattle.sheet_whole.specs.Whole.{told_result, SheetWithin}
 use Prim.Native.Nat.{ℕ, ◌≤◌}
-use mathlib.Core.Path.{◌≡◌, refl, sym, ◌∙◌}
+use mathlib.Core.Path.{◌≡◌, refl, ap, sym, ◌∙◌, subst}
 use mathlib.Core.List.{List}
 use lib.ListN.{length}
 use Rattle.sheet_draws.specs.models.Problem.{Problem}
-use Rattle.sheet_draws.specs.sheet_text.Text.{Reading, refused, got, next}
-use Rattle.sheet_draws.specs.SheetTextReadLaws.{next_got, next_refused}
+use Rattle.sheet_draws.specs.sheet_text.declared.Text.{Text}
+use Rattle.sheet_draws.specs.sheet_text.Text.{Reading, refused, got, next, map_reading}
+use Rattle.sheet_draws.specs.sheet_text.Told.{Reads}
 use Rattle.sheet_draws.specs.sheet_format.Form.{Sheet, whole_problem, draws, routes, last_run, slices_of, sections, sheet}
 use Rattle.sheet_draws.specs.sheet_format.Faults.{not_too_long}
 use Rattle.sheet_whole.specs.Request.{Request, request_of, request}
@@ -49,19 +52,26 @@ module _ (s : List ℕ) (at : ℕ) where
 
 -- ---- the same of a sheet that is not too long
 
-module _ (s : List ℕ) (short : length s ≤ 60000) where
-  sheet_is : sections s 0 ≡ sheet s 0
-  sheet_is = sym (not_too_long s 0 short)
+module _ {t : Text} (short : length t.bytes.now ≤ 60000) where
+  pub no_problem : {u : Text} {k : ℕ} → Reads whole_problem t (λ at. refused k) u → refused k ≡ sheet t.bytes.now t.at
+  no_problem e = problem_stops _ _ _ e.read ∙ sym (not_too_long t.bytes.now t.at short)
 
-  pub no_problem : (k : ℕ) → refused k ≡ whole_problem s 0 → refused k ≡ sheet s 0
-  no_problem k e = problem_stops s 0 k e ∙ sheet_is
+  module _ {p : Problem} {u : Text} (ep : Reads whole_problem t (got p) u) where
+    request_read : {r : Reading Request} → r ≡ request u.bytes.now u.at → r ≡ request t.bytes.now u.at
+    request_read {r} e = subst (λ (s : List ℕ). r ≡ request s u.at) ep.same e
 
-  module _ (p : Problem) (i : ℕ) (ep : got p i ≡ whole_problem s 0) where
-    pub no_request : (k : ℕ) → refused k ≡ request s i → refused k ≡ sheet s 0
-    no_request k e = next_refused (request s i) (λ q l. got (sheet_of p q) l) k e ∙ sym (sections_by s 0 p i ep) ∙ sheet_is
+    pub no_request : {w : Text} {k : ℕ} → Reads request u (λ at. refused k) w → refused k ≡ sheet t.bytes.now t.at
+    no_request e = ap (λ (r : Reading Request). next r (λ q l. got (sheet_of p q) l)) (request_read e.read) ∙ sym (sections_by _ _ p u.at ep.read) ∙ sym (not_too_long t.bytes.now t.at short)
 
-    pub sheet_got : (q : Request) (l : ℕ) → got q l ≡ request s i → got (sheet_of p q) l ≡ sheet s 0
-    sheet_got q l e = next_got (request s i) (λ q l. got (sheet_of p q) l) q l (got (sheet_of p q) l) e refl ∙ sym (sections_by s 0 p i ep) ∙ sheet_is
+    pub sheet_got : {q : Request} {w : Text} → Reads request u (got q) w → got (sheet_of p q) w.at ≡ sheet t.bytes.now t.at
+    sheet_got e = ap (λ (r : Reading Request). next r (λ q l. got (sheet_of p q) l)) (request_read e.read) ∙ sym (sections_by _ _ p u.at ep.read) ∙ sym (not_too_long t.bytes.now t.at short)
+
+-- ---- what a `?` hands on
+
+pub err_mapped : {A S : Type 0} (f : A → S) (p : Reading S) (r : Result (A × ℕ) Refusal) (k : Refusal) → IsErrAnd r (λ y. y ≡ k) → refused (number k) ≡ p → map_reading f (told_result r) ≡ p
+err_mapped f p r k e g =
+    let x = err_from_is_err_and r e in
+    rw (x.1, x.2) g
 
 -- a sheet that was not read is within any bound
 pub no_sheet_within : (r : Result (SheetRead × ℕ) Refusal) (k : Refusal) → IsErrAnd r (λ y. y ≡ k) → SheetWithin r

@@ -1,9 +1,7 @@
--- The last three sections of a sheet, what is asked of its problem, and what the answer of their reader means. Assumes nothing.
-use Rattle.std.specs.Prelude.{ℕ, ◌≤◌, List, take, Result, Ok, Err}
+-- The last three sections of a sheet, and what is asked of its problem. Assumes nothing.
+use Rattle.std.specs.Prelude.{ℕ, List, take}
 use Rattle.sheet_draws.specs.plan.Plan.{Slices}
-use Rattle.sheet_draws.specs.sheet_text.refusal.declared.Refusal.{Refusal}
-use Rattle.sheet_draws.specs.sheet_text.Text.{Reading, map_reading, Parser, ◌>>=◌, pure}
-use Rattle.sheet_draws.specs.sheet_text.Told.{told_result}
+use Rattle.sheet_draws.specs.sheet_text.Text.{Parser, ◌>>=◌, pure}
 use Rattle.sheet_draws.specs.sheet_format.Form.{Run, draws, routes, slices_of, last_run}
 use Rattle.sheet_whole.specs.declared.parts.Request.{Request as RequestRead}
 
@@ -29,10 +27,6 @@ abbrev pub request_in : List ℕ → List ℕ → List ℕ → (draws routes use
 request_in lengths stops tape draws routes used limit clock =
     request_of (take draws tape) (record { lengths = take routes lengths; stops = take used stops }) (record { limit = limit; clock = clock })
 
-abbrev pub told_request : List ℕ → List ℕ → List ℕ → Result (RequestRead × ℕ) Refusal → Reading Request
-told_request lengths stops tape r = map_reading (λ q. request_in lengths stops tape q.draws q.given q.used q.limit q.clock) (told_result r)
-
--- where a request was read, what it holds fits its slices
-abbrev pub RequestWithin : Result (RequestRead × ℕ) Refusal → Type 0
-RequestWithin (Ok (q, i)) = (q.draws ≤ 1024) × (q.given ≤ 64) × (q.used ≤ 64)
-RequestWithin (Err k) = Unit
+-- the same of what the code answers
+abbrev pub held : List ℕ → List ℕ → List ℕ → RequestRead → Request
+held lengths stops tape q = request_in lengths stops tape q.draws q.given q.used q.limit q.clock

@@ -1,8 +1,8 @@
 -- What the answer of the reader of a sheet means, with what the slices hold after it. Assumes nothing.
 use Rattle.std.specs.Prelude.{ℕ, ◌≤◌, List, take, Float, Result, Ok, Err}
 use Rattle.sheet_draws.specs.sheet_text.refusal.declared.Refusal.{Refusal}
-use Rattle.sheet_draws.specs.sheet_text.Text.{Reading, map_reading}
-use Rattle.sheet_draws.specs.sheet_text.Told.{told_result}
+use Rattle.sheet_draws.specs.sheet_text.refusal.Number.{number}
+use Rattle.sheet_draws.specs.sheet_text.Text.{Reading, refused, got, map_reading}
 use Rattle.sheet_draws.specs.sheet_format.Form.{Sheet}
 use Rattle.sheet_draws.specs.sheet_reader.Cells.{Columns}
 use Rattle.sheet_problem.specs.declared.Head.{Head}
@@ -18,6 +18,11 @@ sheet_in lengths stops tape c distances times h draws routes used limit clock =
       tape = take draws tape;
       run = record { limit = limit; clock = clock };
     }
+
+-- a value and the position after it, or why it is refused
+abbrev pub told_result : {A : Type 0} → Result (A × ℕ) Refusal → Reading A
+told_result (Ok (a, i)) = got a i
+told_result (Err r) = refused (number r)
 
 abbrev pub told_sheet : List ℕ → List ℕ → List ℕ → Columns → List Float → List Float → Result (SheetRead × ℕ) Refusal → Reading Sheet
 told_sheet lengths stops tape c distances times r =

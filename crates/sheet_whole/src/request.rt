@@ -1,10 +1,11 @@
 // The last three sections: what is asked of the problem.
-ghost use Rattle.std.specs.Prelude.{◌≡◌, ◌≤◌, length};
-ghost use Rattle.sheet_whole.specs.Request.{request as Request·request, told_request, RequestWithin};
+ghost use Rattle.std.specs.Prelude.{◌≡◌, ◌≤◌, length, IfOk};
+ghost use Rattle.sheet_draws.specs.sheet_text.Told.{Reads, told_as};
+ghost use Rattle.sheet_whole.specs.Request.{request as Request·request, held};
 
 use crate::parts::Request;
 use sheet_draws::draws;
-use sheet_problem::Refusal;
+use sheet_problem::{Refusal, Text};
 use sheet_routes::routes::routes;
 use sheet_run::last_run;
 
@@ -13,22 +14,20 @@ pub fn request(
     lengths: &mut [u16],
     stops: &mut [u16],
     tape: &mut [u64],
-    s: &[u8],
-    at: usize,
-) -> Result<(Request, usize), Refusal>
+    text: &mut Text<'_>,
+) -> Result<Request, Refusal>
     requires { (64 ≤ length lengths.old) × (64 ≤ length stops.old) × (1024 ≤ length tape.old) }
-    ensures result_after { told_request lengths.new stops.new tape.new result ≡ Request·request s.now at }
-    ensures request_within { RequestWithin result }
+    ensures read { Reads Request·request text.old (told_as (held lengths.new stops.new tape.new) result) text.new }
+    ensures request_within { IfOk result (λ q. (q.draws ≤ 1024) × (q.given ≤ 64) × (q.used ≤ 64)) }
 {
-    let (drawn, j) = draws(tape, s, at)?;
-    let (plan, l) = routes(lengths, stops, s, j)?;
-    let (run, e) = last_run(s, l)?;
-    let request = Request {
+    let drawn = draws(tape, text)?;
+    let plan = routes(lengths, stops, text)?;
+    let run = last_run(text)?;
+    Ok(Request {
         draws: drawn,
         given: plan.given,
         used: plan.used,
         limit: run.limit,
         clock: run.clock,
-    };
-    Ok((request, e))
+    })
 }

@@ -6,7 +6,7 @@ ghost use Rattle.sheet_whole.specs.Whole.{told_sheet, SheetWithin};
 
 use crate::parts::Sheet;
 use crate::request::request;
-use sheet_problem::{Refusal, problem};
+use sheet_problem::{Refusal, Text, problem};
 
 // How many bytes a sheet may have.
 const MOST_BYTES: usize = 60000;
@@ -29,15 +29,17 @@ pub fn sheet(
     requires in_bounds { (64 ≤ length lengths.old) × (64 ≤ length stops.old) × (1024 ≤ length tape.old) }
     requires room { Room 64 (columns_of demand.old service.old ready.old due.old penalty.old flags.old) }
     requires in_bounds_2 { (4096 ≤ length distances.old) × (4096 ≤ length times.old) }
-    ensures result_after { told_sheet lengths.new stops.new tape.new (columns_of demand.new service.new ready.new due.new penalty.new flags.new) distances.new times.new result ≡ Form·sheet s.now 0 }
+    ensures result_after { told_sheet lengths.new stops.new tape.new (columns_of demand.new service.new ready.new due.new penalty.new flags.new)
+        distances.new times.new result ≡ Form·sheet s.now 0 }
     ensures sheet_within { SheetWithin result }
 {
     if s.len() > MOST_BYTES {
         return Err(Refusal::SheetLength);
     }
-    let (head, i) = problem(
-        demand, service, ready, due, penalty, flags, distances, times, s, 0,
+    let mut text = Text { bytes: s, at: 0 };
+    let head = problem(
+        demand, service, ready, due, penalty, flags, distances, times, &mut text,
     )?;
-    let (request, e) = request(lengths, stops, tape, s, i)?;
-    Ok((Sheet { head, request }, e))
+    let request = request(lengths, stops, tape, &mut text)?;
+    Ok((Sheet { head, request }, text.at))
 }

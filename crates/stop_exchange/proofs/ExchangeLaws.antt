@@ -13,7 +13,7 @@ use mir.Syntax.{w64}
 use mir.Val.{Fits}
 use borrow.Author.Rules.{rules}
 use Rattle.perturbation.specs.models.declared.vehicle.Vehicle.{Vehicle}
-use Rattle.perturbation.specs.models.Problem.{Problem, problem, of_demand, Stops}
+use Rattle.perturbation.specs.models.Problem.{Problem, of_demand, Stops, problem_of}
 use Rattle.exchanged_stops.specs.plan.Plan.{Plan, Lent, HasStop, split, route, offset, exchange_stops}
 use Rattle.exchanged_stops.specs.PlanExchanges.{occurs_exchange_stops, number_exchange_stops, first_stop_still, second_stop_still, exchange_stops_twice}
 use Rattle.perturbation.specs.route_load.Feasible.{load, fits, checked, feasible}
@@ -53,22 +53,19 @@ and_last : (x y z : Bool) → y ≡ false → (x && (y && z)) ≡ false
 and_last true y z e = rw e
 and_last false y z e = refl
 
-module _ (size : ℕ) (demand : List ℤ) (service ready due penalty : List Float) (flags : List ℕ) (distances times : List Float) (vehicle : Vehicle) (a b : ℕ) (plan : Plan)
-    (v : Bool) (ev : v ≡ fits (of_demand demand vehicle) (load demand (route a plan))) where
-  abbrev p : Problem
-  p = problem size demand service ready due penalty flags distances times vehicle
-
+module _ (p : Problem) (a b : ℕ) (plan : Plan)
+    (v : Bool) (ev : v ≡ fits (of_demand p.demand p.vehicle) (load p.demand (route a plan))) where
   abbrev unladen : Problem
-  unladen = problem size [] service ready due penalty flags distances times vehicle
+  unladen = problem_of [] p.places p.roads p.vehicle
 
   pub first_heavy : v ≡ false → false ≡ stands p a b plan
   unfolding feasible
   first_heavy f = rw (← ev, f)
 
-  module _ (h : v ≡ true) (w : Bool) (ew : w ≡ fits (of_demand demand vehicle) (load demand (route b plan))) where
+  module _ (h : v ≡ true) (w : Bool) (ew : w ≡ fits (of_demand p.demand p.vehicle) (load p.demand (route b plan))) where
     pub second_heavy : w ≡ false → false ≡ stands p a b plan
     unfolding feasible
-    second_heavy f = sym (and_last (feasible p (route a plan)) (fits p (load demand (route b plan))) (checked p (route b plan)) (sym ew ∙ f))
+    second_heavy f = sym (and_last (feasible p (route a plan)) (fits p (load p.demand (route b plan))) (checked p (route b plan)) (sym ew ∙ f))
 
     module _ (k : w ≡ true) (x : Bool) (ex : x ≡ checked unladen (route a plan)) where
       pub first_fails : x ≡ false → false ≡ stands p a b plan

@@ -2,6 +2,7 @@
 -- what the code keeps between them
 pub mod Moves
 -- crates below, passed on to those above
+pub use Rattle.reinsertion.specs.evaluation as evaluation
 pub use Rattle.reinsertion.specs.laws as laws
 pub use Rattle.reinsertion.specs.floats as floats
 pub use Rattle.reinsertion.specs.models as models

@@ -1,3 +1,5 @@
--- What the readers of slices say of their counts.
--- a count of cells
-pub mod Counts
+-- What the numbers of a text stand for.
+-- the values of numbers, by their types
+pub mod Cells
+-- crates below, passed on to those above
+pub use Rattle.stored_values.specs as stored_values

@@ -4,3 +4,4 @@ pub mod Answers
 -- crates below, passed on to those above
 pub use Rattle.planner_questions.specs.laws as laws
 pub use Rattle.planner_questions.specs.planner as planner
+pub use Rattle.stored_values.specs as stored_values

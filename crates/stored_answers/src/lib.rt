@@ -9,8 +9,11 @@ ghost use Rattle.stored_answers.specs.Answers.{stored, refusal_stored, checked_s
 use planner_questions::{Reduction, Refusal, RouteEval, TimeWindow};
 use stored_values::bits_of;
 
+// Of the crates below, passed on to those above.
+pub use stored_values::Kind;
+
 // An answer as seven numbers: a tag, which is 0 for a refusal, and what an answer with that tag holds, floats by their bits. What it lacks is 0.
-#[derive(Clone, Copy)]
+#[derive(Clone, Copy, Debug, PartialEq, Eq)]
 pub struct Stored {
     pub tag: u64,
     pub a: u64,
@@ -36,11 +39,13 @@ fn short(tag: u64, a: u64, b: u64, c: u64) -> Stored
     }
 }
 
-// The number of a refusal.
-fn of_refusal(refusal: Refusal) -> Stored
-    ensures { result ≡ refusal_stored (number refusal) }
-{
-    short(0, refusal.number() as u64, 0, 0)
+// A refusal is its number only.
+impl From<Refusal> for Stored {
+    ghost from_gives = { λ refusal answer. answer ≡ refusal_stored (number refusal) };
+
+    fn from(refusal: Refusal) -> Stored {
+        short(0, refusal.number() as u64, 0, 0)
+    }
 }
 
 pub fn of_checked(answer: Result<bool, Refusal>) -> Stored
@@ -54,7 +59,7 @@ pub fn of_checked(answer: Result<bool, Refusal>) -> Stored
                 short(1, 0, 0, 0)
             }
         }
-        Err(refusal) => of_refusal(refusal),
+        Err(refusal) => refusal.into(),
     }
 }
 
@@ -63,7 +68,7 @@ pub fn of_number(answer: Result<f64, Refusal>) -> Stored
 {
     match answer {
         Ok(x) => short(1, bits_of(x), 0, 0),
-        Err(refusal) => of_refusal(refusal),
+        Err(refusal) => refusal.into(),
     }
 }
 
@@ -114,7 +119,7 @@ pub fn of_evaluated(answer: Result<Option<RouteEval>, Refusal>) -> Stored
 {
     match answer {
         Ok(eval) => of_eval(eval),
-        Err(refusal) => of_refusal(refusal),
+        Err(refusal) => refusal.into(),
     }
 }
 
@@ -135,6 +140,6 @@ pub fn of_replied(answer: Result<Reduction, Refusal>) -> Stored
             let counts = done.counts;
             short(1, done.routes as u64, counts.steps, counts.draws)
         }
-        Err(refusal) => of_refusal(refusal),
+        Err(refusal) => refusal.into(),
     }
 }

@@ -1,4 +1,4 @@
-// The values that stored numbers stand for: a float by its bits, a signed number by its two's complement.
+// The values that stored numbers stand for: a float by its bits, a signed number by its two's complement, a kind of call by its number.
 #![tactic(auto)]
 
 ghost use Rattle.std.specs.Prelude.{◌≡◌, ◌<◌, ◌^◌};
@@ -7,7 +7,12 @@ ghost use Rattle.std.specs.Float.Ieee.{of_bits, to_bits};
 ghost use Rattle.std.proofs.Common.{to_z};
 ghost use Rattle.std.specs.Int.{w32};
 
+mod kinds;
+
+pub use kinds::Kind;
+
 // The float of a pattern. Every pattern of a NaN is the NaN.
+#[tactic(auto, using(crate::proofs::ValueLaws::value_laws))]
 pub fn float_of(bits: u64) -> f64
     ensures { result ≡ of_bits binary64 bits }
 {
@@ -18,6 +23,7 @@ pub fn float_of(bits: u64) -> f64
 }
 
 // The pattern of a float, for a NaN the one with only the highest digit set.
+#[tactic(auto, using(crate::proofs::ValueLaws::value_laws))]
 pub fn bits_of(x: f64) -> u64
     ensures { result ≡ to_bits binary64 x }
 {

@@ -7,7 +7,7 @@ use lib.ListN.{take, drop}
 use lib.IntN.{ℤ}
 use lib.Ieee.{Float}
 use Rattle.joined_tails.specs.models.declared.vehicle.Vehicle.{Vehicle}
-use Rattle.joined_tails.specs.models.Problem.{Problem, problem, of_demand}
+use Rattle.joined_tails.specs.models.Problem.{Problem, of_demand}
 use Rattle.route_exchange.specs.plan.Plan.{Plan, Holds, HasPosition, split, route, total, non_empty, exchange_tails}
 use Rattle.route_exchange.specs.PlanExchanges.{first_exchange_tails, second_exchange_tails}
 use Rattle.joined_tails.specs.route_load.Feasible.{load, fits, feasible}
@@ -29,10 +29,10 @@ and_true true = refl
 and_true false = refl
 
 -- the first is too heavy; the second does not stand; the first decides
-module _ (size : ℕ) (demand : List ℤ) (service ready due penalty : List Float) (flags : List ℕ) (distances times : List Float) (vehicle : Vehicle) (a i b j : ℕ) (plan : Plan)
-    (v : Bool) (ev : v ≡ fits (of_demand demand vehicle) (load demand (joined a i b j plan))) where
+module _ (p : Problem) (a i b j : ℕ) (plan : Plan)
+    (v : Bool) (ev : v ≡ fits (of_demand p.demand p.vehicle) (load p.demand (joined a i b j plan))) where
   abbrev whole_problem : Problem
-  whole_problem = problem size demand service ready due penalty flags distances times vehicle
+  whole_problem = p
 
   abbrev both_stand : Bool
   both_stand = joined_stands whole_problem a i b j plan && joined_stands whole_problem b j a i plan

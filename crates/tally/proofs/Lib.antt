@@ -1,3 +1,5 @@
 -- Laws of the counts.
--- the counts after a call
-pub mod TallyLaws
+-- calls counted one after the other
+pub mod CountedLaws
+-- the lines of kinds
+pub mod PrintedLaws

@@ -1,107 +1,136 @@
-// What a replay of stored answers asked, counted and printed. Cells 0 to 9 of the counts are the kinds, cell 10 is their sum.
+// What a replay of stored answers asked, counted and printed.
 #![tactic(auto)]
 
-ghost use Rattle.std.specs.Prelude.{◌≡◌, ◌<◌};
-ghost use Rattle.tally.specs.Tally.{one_more, counted, counted_if};
+ghost use Rattle.std.specs.Prelude.{◌≡◌, Some};
+ghost use Rattle.stored_values.specs.Kinds.{number_of};
+ghost use Rattle.tally.specs.Tally.{one_more, counted, no_calls, noted};
+ghost use Rattle.tally.specs.Printed.{kind_line, printed};
+
+use std::fmt;
+use std::fmt::Write;
+
+// Of the crates below, passed on to those above.
+pub use stored_values::Kind;
 
 // Standard output.
-const STDOUT: i32 = 1;
+#[derive(Clone, Copy)]
+struct Stdout;
+
+impl fmt::Write for Stdout {
+    fn write_str(&mut self, s: &str) -> fmt::Result {
+        if io::write_all(1, s.as_bytes()) {
+            Ok(())
+        } else {
+            Err(fmt::Error)
+        }
+    }
+}
+
+// How many calls of each kind were asked, and how many of their answers agreed. Cells 0 to 9 are the kinds, cell 10 is their sum.
+#[derive(Clone, Copy)]
+pub struct Tally {
+    asked: [u64; 11],
+    agreed: [u64; 11],
+}
 
 // One more, up to the last number.
 fn more(count: u64) -> u64
     ensures { result ≡ one_more count }
 {
-    if count == u64::MAX { count } else { count + 1 }
+    count.saturating_add(1)
 }
 
 // Counts a call of a kind.
-fn count(kind: usize, counts: &mut [u64; 11])
-    requires { kind < 10 }
-    ensures { counts.new ≡ counted kind counts.old }
+fn count(kind: Kind, counts: &mut [u64; 11])
+    ensures { counts.new ≡ counted (number_of kind) counts.old }
 {
-    let of_kind = counts[kind];
+    let of_kind = counts[kind.number()];
     let all = counts[10];
-    counts[kind] = more(of_kind);
+    counts[kind.number()] = more(of_kind);
     counts[10] = more(all);
 }
 
-// Counts a call, and as one that agrees only where it does.
-pub fn note(kind: usize, agrees: bool, asked: &mut [u64; 11], agreed: &mut [u64; 11])
-    requires { kind < 10 }
-    ensures { (asked.new ≡ counted kind asked.old) × (agreed.new ≡ counted_if agrees kind agreed.old) }
-{
-    count(kind, asked);
-    if agrees {
-        count(kind, agreed);
-        return;
+impl Tally {
+    // The tally before any call.
+    pub fn new() -> Tally
+        ensures { result ≡ no_calls }
+    {
+        Tally {
+            asked: [0; 11],
+            agreed: [0; 11],
+        }
     }
-    let number = asked[10];
-    print_difference(number, kind);
-}
 
-fn print(text: &[u8]) {
-    io::write_all(STDOUT, text);
-}
+    // Counts a call, and as one that agrees only where it does; one that differs is printed.
+    pub fn note(&mut self, kind: Kind, agrees: bool)
+        ensures { self.new ≡ noted kind agrees self.old }
+    {
+        count(kind, &mut self.asked);
+        if agrees {
+            count(kind, &mut self.agreed);
+        } else {
+            print_difference(self.asked[10], kind);
+        }
+    }
 
-fn print_kind(kind: usize) {
-    match kind {
-        0 => print(b"minimise"),
-        1 => print(b"eliminate"),
-        2 => print(b"route_feasible"),
-        3 => print(b"route_eval"),
-        4 => print(b"effective_cost"),
-        5 => print(b"schedule"),
-        6 => print(b"route_distance"),
-        7 => print(b"lateness_bound"),
-        8 => print(b"gain_floor"),
-        _ => print(b"time_window_new"),
+    // Prints the whole tally.
+    pub fn print(&self) {
+        let _ = write!(Stdout, "{self}");
     }
 }
 
-fn print_difference(number: u64, kind: usize) {
-    print(b"call ");
-    io::print_decimal(STDOUT, number);
-    print(b", ");
-    print_kind(kind);
-    print(b", differs\n");
+// The line of a kind.
+#[derive(Clone, Copy)]
+struct KindLine {
+    tally: Tally,
+    kind: Kind,
 }
 
-// A line for each kind.
-fn print_kinds(asked: &[u64; 11], agreed: &[u64; 11]) {
-    let mut kind: usize = 0;
-    while kind < 10 {
-        print_kind(kind);
-        print(b": ");
-        io::print_decimal(STDOUT, asked[kind]);
-        print(b" calls, ");
-        io::print_decimal(STDOUT, agreed[kind]);
-        print(b" agree\n");
-        kind += 1;
+impl fmt::Display for KindLine {
+    ghost output = { λ line. Some (kind_line line.tally line.kind) };
+
+    fn fmt<W: fmt::Write>(&self, f: &mut fmt::Formatter<W>) -> fmt::Result {
+        let kind = self.kind;
+        let asked = self.tally.asked[kind.number()];
+        let agreed = self.tally.agreed[kind.number()];
+        writeln!(f, "{kind}: {asked} calls, {agreed} agree")
     }
 }
 
-// The whole tally, the sum last.
-pub fn print_tally(asked: &[u64; 11], agreed: &[u64; 11]) {
-    print_kinds(asked, agreed);
-    io::print_decimal(STDOUT, asked[10]);
-    print(b" calls replayed, ");
-    io::print_decimal(STDOUT, agreed[10]);
-    print(b" agree\n");
+// A line for each kind, the sum last.
+impl fmt::Display for Tally {
+    ghost output = { λ tally. Some (printed tally) };
+
+    fn fmt<W: fmt::Write>(&self, f: &mut fmt::Formatter<W>) -> fmt::Result {
+        let tally = *self;
+        for kind in Kind::ALL {
+            let line = KindLine { tally, kind };
+            write!(f, "{line}")?;
+        }
+        let asked = self.asked[10];
+        let agreed = self.agreed[10];
+        writeln!(f, "{asked} calls replayed, {agreed} agree")
+    }
+}
+
+fn print_difference(number: u64, kind: Kind) {
+    let _ = writeln!(Stdout, "call {number}, {kind}, differs");
 }
 
 // The line for a case that is not of the form.
 pub fn print_fault(case: u64) {
-    print(b"case ");
-    io::print_decimal(STDOUT, case);
-    print(b" is not of the form\n");
+    let _ = writeln!(Stdout, "case {case} is not of the form");
 }
 
 // The line for input whose cases are not as many as it says.
 pub fn print_misfit() {
-    print(b"the input is not a number of cases and as many cases\n");
+    let _ = writeln!(
+        Stdout,
+        "the input is not a number of cases and as many cases"
+    );
 }
 
 // The line for input that there is no room for.
 pub fn print_too_long() {
-    print(b"the input is too long\n");
+    let _ = writeln!(Stdout, "the input is too long");
 }

@@ -3,8 +3,7 @@
 
 ghost use Rattle.std.specs.Prelude.{◌≡◌, ◌<◌, ◌≤◌, ◌+◌, length, take, drop};
 ghost use Rattle.route_checks.specs.laws.Edits.{insert_at};
-ghost use Rattle.route_checks.specs.models.Customer.{customers};
-ghost use Rattle.route_checks.specs.models.Problem.{matrix, Fit, Stops};
+ghost use Rattle.route_checks.specs.models.Problem.{Stops};
 ghost use Rattle.route_checks.specs.break_clock.Schedule.{ride_all, set_out as ride-out};
 ghost use Rattle.route_checks.specs.evaluation.Check.{reach_all, set_out, route_feasible};
 
@@ -12,107 +11,41 @@ use route_checks::{Riding, Way, home_allowed, is_feasible, reach, reach_all, rid
 
 // Of the crates below, passed on to those above.
 pub use route_checks::{
-    Customer, Label, RouteEval, RouteLimits, TimeWindow, Vehicle, VehicleBreak, Walk, abs,
-    break_schedule_schedule, customer_at, evaluation_check, evaluation_route_feasible, get,
-    has_soft_windows, infinity, is_finite, largest, limited, max, min, penalty_at,
-    route_checks_needed, scale, serve_at, total_less, travel_time, window_at,
+    Customer, Customers, DistanceMatrix, Fleet, Instance, Label, Network, Problem, RouteEval,
+    RouteLimits, TimeWindow, Vehicle, VehicleBreak, Walk, abs, break_schedule_schedule,
+    customer_at, evaluation_check, evaluation_route_feasible, get, has_soft_windows, infinity,
+    is_finite, largest, limited, max, min, penalty_at, route_checks_needed, scale, serve_at,
+    total_less, travel_time, window_at,
 };
 
 // The walk of the route check over the front part of a route, up to position pos.
-fn reach_front(
-    route: &[u16],
-    pos: usize,
-    depot: usize,
-    n: usize,
-    distances: &[f64],
-    times: &[f64],
-    service: &[f64],
-    ready: &[f64],
-    due: &[f64],
-    penalty: &[f64],
-    flags: &[u8],
-) -> Option<Way>
-    requires fit { Fit (customers service.now ready.now due.now penalty.now flags.now) (matrix n distances.now times.now) }
-    requires depot_lt_n { (depot < n) × (pos ≤ length route.now) × Stops n route.now }
-    ensures { result ≡ reach_all (customers service.now ready.now due.now penalty.now flags.now)
-        (matrix n distances.now times.now) (take pos route.now) (set_out depot) }
+fn reach_front(route: &[u16], pos: usize, depot: usize, net: &Network) -> Option<Way>
+    requires { (depot < net.now.roads.size) × (pos ≤ length route.now) × Stops net.now.roads.size route.now }
+    ensures { result ≡ reach_all net.now.places net.now.roads (take pos route.now) (set_out depot) }
 {
-    reach_all(
-        Way::new(depot),
-        &route[..pos],
-        n,
-        distances,
-        times,
-        service,
-        ready,
-        due,
-        penalty,
-        flags,
-    )
+    reach_all(Way::new(depot), &route[..pos], net)
 }
 
 // The walk of the route check over the tail of a route, from position pos on.
-fn reach_tail(
-    way: Way,
-    route: &[u16],
-    pos: usize,
-    n: usize,
-    distances: &[f64],
-    times: &[f64],
-    service: &[f64],
-    ready: &[f64],
-    due: &[f64],
-    penalty: &[f64],
-    flags: &[u8],
-) -> Option<Way>
-    requires fit { Fit (customers service.now ready.now due.now penalty.now flags.now) (matrix n distances.now times.now) }
-    requires prev_lt_n { (way.prev < n) × (pos ≤ length route.now) × Stops n route.now }
-    ensures { result ≡ reach_all (customers service.now ready.now due.now penalty.now flags.now)
-        (matrix n distances.now times.now) (drop pos route.now) way }
+fn reach_tail(way: Way, route: &[u16], pos: usize, net: &Network) -> Option<Way>
+    requires { (way.prev < net.now.roads.size) × (pos ≤ length route.now) × Stops net.now.roads.size route.now }
+    ensures { result ≡ reach_all net.now.places net.now.roads (drop pos route.now) way }
 {
     reach_all(
         way,
         &route[pos..], // the stops that c is put in before
-        n,
-        distances,
-        times,
-        service,
-        ready,
-        due,
-        penalty,
-        flags,
+        net,
     )
 }
 
 // The walk of the route check over the route with c put in before position pos.
-fn trial_reached(
-    route: &[u16],
-    pos: usize,
-    c: usize,
-    depot: usize,
-    n: usize,
-    distances: &[f64],
-    times: &[f64],
-    service: &[f64],
-    ready: &[f64],
-    due: &[f64],
-    penalty: &[f64],
-    flags: &[u8],
-) -> Option<Way>
-    requires fit { Fit (customers service.now ready.now due.now penalty.now flags.now) (matrix n distances.now times.now) }
-    requires depot_lt_n { (depot < n) × (c < n) × (pos ≤ length route.now) × Stops n route.now }
-    ensures { result ≡ reach_all (customers service.now ready.now due.now penalty.now flags.now)
-        (matrix n distances.now times.now) (insert_at pos c route.now) (set_out depot) }
+fn trial_reached(route: &[u16], pos: usize, c: usize, depot: usize, net: &Network) -> Option<Way>
+    requires { (depot < net.now.roads.size) × (c < net.now.roads.size) × (pos ≤ length route.now) × Stops net.now.roads.size route.now }
+    ensures { result ≡ reach_all net.now.places net.now.roads (insert_at pos c route.now) (set_out depot) }
 {
-    let before = reach_front(
-        route, pos, depot, n, distances, times, service, ready, due, penalty, flags,
-    )?;
-    let after = reach(
-        before, c, n, distances, times, service, ready, due, penalty, flags,
-    )?;
-    reach_tail(
-        after, route, pos, n, distances, times, service, ready, due, penalty, flags,
-    )
+    let before = reach_front(route, pos, depot, net)?;
+    let after = reach(before, c, net)?;
+    reach_tail(after, route, pos, net)
 }
 
 // The walk of the clock over the front part of a route, up to position pos.
@@ -121,33 +54,12 @@ fn ride_front(
     pos: usize,
     depot: usize,
     rest: VehicleBreak,
-    n: usize,
-    distances: &[f64],
-    times: &[f64],
-    service: &[f64],
-    ready: &[f64],
-    due: &[f64],
-    penalty: &[f64],
-    flags: &[u8],
+    net: &Network,
 ) -> Option<Riding>
-    requires fit { Fit (customers service.now ready.now due.now penalty.now flags.now) (matrix n distances.now times.now) }
-    requires depot_lt_n { (depot < n) × (pos ≤ length route.now) × Stops n route.now }
-    ensures { result ≡ ride_all (customers service.now ready.now due.now penalty.now flags.now)
-        (matrix n distances.now times.now) rest (take pos route.now) (ride-out depot) }
+    requires { (depot < net.now.roads.size) × (pos ≤ length route.now) × Stops net.now.roads.size route.now }
+    ensures { result ≡ ride_all net.now.places net.now.roads rest (take pos route.now) (ride-out depot) }
 {
-    ride_all(
-        Riding::new(depot),
-        rest,
-        &route[..pos],
-        n,
-        distances,
-        times,
-        service,
-        ready,
-        due,
-        penalty,
-        flags,
-    )
+    ride_all(Riding::new(depot), rest, &route[..pos], net)
 }
 
 // The walk of the clock over the tail of a route, from position pos on.
@@ -156,33 +68,12 @@ fn ride_tail(
     route: &[u16],
     pos: usize,
     rest: VehicleBreak,
-    n: usize,
-    distances: &[f64],
-    times: &[f64],
-    service: &[f64],
-    ready: &[f64],
-    due: &[f64],
-    penalty: &[f64],
-    flags: &[u8],
+    net: &Network,
 ) -> Option<Riding>
-    requires fit { Fit (customers service.now ready.now due.now penalty.now flags.now) (matrix n distances.now times.now) }
-    requires prev_lt_n { (way.clock.prev < n) × (pos ≤ length route.now) × Stops n route.now × (way.clock.index ≡ pos + 1) }
-    ensures { result ≡ ride_all (customers service.now ready.now due.now penalty.now flags.now)
-        (matrix n distances.now times.now) rest (drop pos route.now) way }
+    requires { (way.clock.prev < net.now.roads.size) × (pos ≤ length route.now) × Stops net.now.roads.size route.now × (way.clock.index ≡ pos + 1) }
+    ensures { result ≡ ride_all net.now.places net.now.roads rest (drop pos route.now) way }
 {
-    ride_all(
-        way,
-        rest,
-        &route[pos..],
-        n,
-        distances,
-        times,
-        service,
-        ready,
-        due,
-        penalty,
-        flags,
-    )
+    ride_all(way, rest, &route[pos..], net)
 }
 
 // The walk of the clock over the route with c put in before position pos. The drive to c is a walk over a slice of one stop:
@@ -193,30 +84,15 @@ fn trial_ridden(
     c: usize,
     depot: usize,
     rest: VehicleBreak,
-    n: usize,
-    distances: &[f64],
-    times: &[f64],
-    service: &[f64],
-    ready: &[f64],
-    due: &[f64],
-    penalty: &[f64],
-    flags: &[u8],
+    net: &Network,
 ) -> Option<Riding>
-    requires fit { Fit (customers service.now ready.now due.now penalty.now flags.now) (matrix n distances.now times.now) }
-    requires depot_lt_n { (depot < n) × (c < n) × (pos ≤ length route.now) × Stops n route.now }
-    ensures { result ≡ ride_all (customers service.now ready.now due.now penalty.now flags.now)
-        (matrix n distances.now times.now) rest (insert_at pos c route.now) (ride-out depot) }
+    requires { (depot < net.now.roads.size) × (c < net.now.roads.size) × (pos ≤ length route.now) × Stops net.now.roads.size route.now }
+    ensures { result ≡ ride_all net.now.places net.now.roads rest (insert_at pos c route.now) (ride-out depot) }
 {
-    let before = ride_front(
-        route, pos, depot, rest, n, distances, times, service, ready, due, penalty, flags,
-    )?;
+    let before = ride_front(route, pos, depot, rest, net)?;
     let one = [c as u16];
-    let after = ride_all(
-        before, rest, &one, n, distances, times, service, ready, due, penalty, flags,
-    )?;
-    ride_tail(
-        after, route, pos, rest, n, distances, times, service, ready, due, penalty, flags,
-    )
+    let after = ride_all(before, rest, &one, net)?;
+    ride_tail(after, route, pos, rest, net)
 }
 
 // Whether the route passes once c is put in before position pos.
@@ -226,35 +102,22 @@ pub fn trial_feasible(
     c: usize,
     depot: usize,
     limits: RouteLimits,
-    n: usize,
-    distances: &[f64],
-    times: &[f64],
-    service: &[f64],
-    ready: &[f64],
-    due: &[f64],
-    penalty: &[f64],
-    flags: &[u8],
+    net: &Network,
 ) -> bool
-    requires fit { Fit (customers service.now ready.now due.now penalty.now flags.now) (matrix n distances.now times.now) }
-    requires depot_lt_n { (depot < n) × (c < n) × (pos ≤ length route.now) × Stops n route.now }
-    ensures { result ≡ route_feasible (customers service.now ready.now due.now penalty.now flags.now)
-        (matrix n distances.now times.now) depot limits (insert_at pos c route.now) }
+    requires { (depot < net.now.roads.size) × (c < net.now.roads.size) × (pos ≤ length route.now) × Stops net.now.roads.size route.now }
+    ensures { result ≡ route_feasible net.now.places net.now.roads depot limits (insert_at pos c route.now) }
 {
     let Some(rest) = limits.rest else {
-        let walked = trial_reached(
-            route, pos, c, depot, n, distances, times, service, ready, due, penalty, flags,
-        );
+        let walked = trial_reached(route, pos, c, depot, net);
         let Some(way) = walked else {
             return false;
         };
-        return home_allowed(way, depot, limits, n, distances, times);
+        return home_allowed(way, depot, limits, &net.roads);
     };
-    let ridden = trial_ridden(
-        route, pos, c, depot, rest, n, distances, times, service, ready, due, penalty, flags,
-    );
+    let ridden = trial_ridden(route, pos, c, depot, rest, net);
     let Some(at) = ridden else {
         return false;
     };
-    let e = ride_home(at, rest, depot, n, distances, times);
+    let e = ride_home(at, rest, depot, &net.roads);
     is_feasible(limited(e, limits))
 }

@@ -3,8 +3,7 @@
 #![tactic(auto)]
 
 ghost use Rattle.std.specs.Prelude.{◌≡◌, ◌≤◌, ◌<◌, length, take, drop};
-ghost use Rattle.latest_times.specs.models.Customer.{customers};
-ghost use Rattle.latest_times.specs.models.Problem.{matrix, Fit, Stops};
+ghost use Rattle.latest_times.specs.models.Problem.{Stops};
 ghost use Rattle.latest_times.specs.quick_test.Quick.{departures, latest_arrivals};
 ghost use Rattle.latest_times.specs.quick_test.Parts.{told};
 
@@ -12,38 +11,21 @@ use latest_times::{infinity, latest_arrival, leave};
 
 // Of the crates below, passed on to those above.
 pub use latest_times::{
-    Counts, Insertion, LocalSearchNext, Pick, Reduction, Vehicle, checked, constrained, copy_part,
-    feasible, has_room, insertion_cost, may_fit, next_pick, offset, put_in, rounds, take_out,
-    trial_ok, within_capacity,
+    Counts, DistanceMatrix, Fleet, Insertion, Instance, LocalSearchNext, Network, Pick, Reduction,
+    Vehicle, checked, constrained, copy_part, feasible, has_room, insertion_cost, may_fit,
+    next_pick, offset, put_in, rounds, take_out, trial_ok, within_capacity,
 };
 
 // The time each stop of a route is left goes to the first cells; false where one is reached after its window closes.
-pub fn departures(
-    out: &mut [f64],
-    route: &[u16],
-    depot: usize,
-    n: usize,
-    distances: &[f64],
-    times: &[f64],
-    service: &[f64],
-    ready: &[f64],
-    due: &[f64],
-    penalty: &[f64],
-    flags: &[u8],
-) -> bool
-    requires fit { Fit (customers service.now ready.now due.now penalty.now flags.now) (matrix n distances.now times.now) }
-    requires depot_lt_n { (depot < n) × Stops n route.now × (length route.now ≤ length out.old) }
-    ensures { departures (customers service.now ready.now due.now penalty.now flags.now)
-        (matrix n distances.now times.now) depot route.now
-        ≡ told result (take (length route.now) out.new) }
+pub fn departures(out: &mut [f64], route: &[u16], depot: usize, net: &Network) -> bool
+    requires { (depot < net.now.roads.size) × Stops net.now.roads.size route.now × (length route.now ≤ length out.old) }
+    ensures { departures net.now.places net.now.roads depot route.now ≡ told result (take (length route.now) out.new) }
 {
     let mut time = 0.0;
     let mut prev = depot;
     for i in 0..route.len() {
         let c = route[i] as usize;
-        let Some(left) = leave(
-            time, prev, c, n, distances, times, service, ready, due, penalty, flags,
-        ) else {
+        let Some(left) = leave(time, prev, c, net) else {
             return false;
         };
         out[i] = left;
@@ -55,33 +37,16 @@ pub fn departures(
 
 // The latest arrival at each stop of a route that lets it and every stop after it start in time goes to the first cells, from
 // the last to the first. The depot has no window: the last stop is bound by its own alone.
-pub fn latest_arrivals(
-    out: &mut [f64],
-    route: &[u16],
-    depot: usize,
-    n: usize,
-    distances: &[f64],
-    times: &[f64],
-    service: &[f64],
-    ready: &[f64],
-    due: &[f64],
-    penalty: &[f64],
-    flags: &[u8],
-)
-    requires fit { Fit (customers service.now ready.now due.now penalty.now flags.now) (matrix n distances.now times.now) }
-    requires depot_lt_n { (depot < n) × Stops n route.now × (length route.now ≤ length out.old) }
-    ensures { (take (length route.now) out.new
-        ≡ latest_arrivals (customers service.now ready.now due.now penalty.now flags.now)
-        (matrix n distances.now times.now) depot route.now)
+pub fn latest_arrivals(out: &mut [f64], route: &[u16], depot: usize, net: &Network)
+    requires { (depot < net.now.roads.size) × Stops net.now.roads.size route.now × (length route.now ≤ length out.old) }
+    ensures { (take (length route.now) out.new ≡ latest_arrivals net.now.places net.now.roads depot route.now)
         × (drop (length route.now) out.new ≡ drop (length route.now) out.old) }
 {
     let mut by = infinity();
     let mut next = depot;
     for i in (0..route.len()).rev() {
         let c = route[i] as usize;
-        by = latest_arrival(
-            by, c, next, n, distances, times, service, ready, due, penalty, flags,
-        );
+        by = latest_arrival(by, c, next, net);
         out[i] = by;
         next = c;
     }

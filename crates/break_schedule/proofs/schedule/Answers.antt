@@ -4,4 +4,4 @@ use Rattle.break_clock.proofs.ScheduleLaws.{ride_ends}
 use Rattle.break_schedule.proofs.schedule.Goals as goal
 
 pub ride_home-requires-clause-prev_lt_n : goal.ride_home-requires-clause-prev_lt_n
-ride_home-requires-clause-prev_lt_n c = (search (rules, ride_ends, c.in_ok-at.was, c.requires.depot_lt_n), c.requires.depot_lt_n.0)
+ride_home-requires-clause-prev_lt_n c = (search (rules, ride_ends, c.in_ok-at.was, c.requires), c.requires.0)

@@ -12,7 +12,7 @@ pub overflow_add-end : goal.overflow_add-end
 overflow_add-end c = search seeking_laws
 
 pub try_part-best-requires : goal.try_part-best-requires
-try_part-best-requires c = record { admitted = c.loop-k.invariant.admitted; c_lt_n = (c.loop-k.invariant.there, search rules, search part_end, search part_stops, c.loop-k.invariant.room, c.loop-k.invariant.asked) }
+try_part-best-requires c = (c.loop-k.invariant.there, search rules, search part_end, search part_stops, c.loop-k.invariant.room)
 
 pub loop-k-preserved : goal.loop-k-preserved
 loop-k-preserved c = search seeking_laws

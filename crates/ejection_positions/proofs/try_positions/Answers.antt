@@ -9,7 +9,7 @@ pub loop-pos-init : goal.loop-pos-init
 loop-pos-init c = search along_laws
 
 pub try_in_kept-found-requires : goal.try_in_kept-found-requires
-try_in_kept-found-requires c = record { fit = c.loop-pos.invariant.fit; depot_id_bound = (c.loop-pos.invariant.home, c.loop-pos.invariant.there, search rules, c.loop-pos.invariant.stops, c.loop-pos.invariant.room, c.loop-pos.invariant.asked) }
+try_in_kept-found-requires c = (c.loop-pos.invariant.there, search rules, c.loop-pos.invariant.stops, c.loop-pos.invariant.room)
 
 pub loop-pos-preserved : goal.loop-pos-preserved
 loop-pos-preserved c = along_more _ _ _ _ _ _ _ _ _ c.loop-pos.invariant _ (omega arith) c.try_in_kept-found.ensures

@@ -6,7 +6,7 @@ use native.Mathlib.Omega.{arith}
 use Rattle.ejection_search.proofs.eject_some.Goals as goal
 
 pub loop-k-init : goal.loop-k-init
-loop-k-init c = over_start _ _ _ _ _ _ _ _ _ c.requires.admitted c.requires.lent.0 c.requires.lent.1 c.requires.lent.2 c.requires.lent.3 c.requires.lent.4 c.requires.lent.5 c.requires.lent.6
+loop-k-init c = over_start _ _ _ _ _ _ _ _ _ c.args.given.now.admitted c.requires.0 c.requires.1 c.requires.2 c.requires.3 c.requires.4 c.requires.5 c.args.given.now.fleet.needed_is
 
 pub overflow_add-end : goal.overflow_add-end
 overflow_add-end c = part_end_fits _ _ _ _ _ c.loop-k.invariant.visit c.loop-k-test.true

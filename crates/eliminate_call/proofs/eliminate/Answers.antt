@@ -10,8 +10,11 @@ returns-in_err-eliminate_refusal-clause-reply c = let p = err_from_is_err_and c.
 pub returns-in_err-eliminate_refusal-clause-work : goal.returns-in_err-eliminate_refusal-clause-work
 returns-in_err-eliminate_refusal-clause-work c = let p = err_from_is_err_and c.from_residual.result c.from_residual.ensures.1 in rw p.1 refl
 
+pub instance-requires : goal.instance-requires
+instance-requires c = (eliminate_searches _ _ _ c.in_ok-eliminate_refusal.ensures c.args.work.now refl).admitted
+
 pub eliminate_routes-routes-requires : goal.eliminate_routes-routes-requires
-eliminate_routes-routes-requires c = eliminate_searches _ _ _ c.in_ok-eliminate_refusal.ensures _ refl
+eliminate_routes-routes-requires c = rw c.instance.ensures (eliminate_searches _ _ _ c.in_ok-eliminate_refusal.ensures _ refl)
 
 pub returns : goal.returns
-returns c = record { reply = eliminate_answers _ _ _ c.in_ok-eliminate_refusal.ensures _ _ c.eliminate_routes-routes.ensures; work = tt }
+returns c = record { reply = eliminate_answers _ _ _ c.in_ok-eliminate_refusal.ensures _ _ (rw c.instance.ensures at c.eliminate_routes-routes.ensures); work = tt }

@@ -2,8 +2,8 @@
 use Rattle.insertion.proofs.PassLaws.{pass_laws}
 use Rattle.insertion.proofs.may_pass.Goals as goal
 
-pub returns-then-not-needed : goal.returns-then-not-needed
-returns-then-not-needed c = search pass_laws
+pub returns-then-not-fleet : goal.returns-then-not-fleet
+returns-then-not-fleet c = search pass_laws
 
 pub returns-then-fits : goal.returns-then-fits
 returns-then-fits c = search pass_laws

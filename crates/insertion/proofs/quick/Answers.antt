@@ -4,7 +4,7 @@ use Rattle.insertion.proofs.PassLaws.{quick_is}
 use Rattle.insertion.proofs.quick.Goals as goal
 
 pub may_fit-requires : goal.may_fit-requires
-may_fit-requires c = record { fit = c.requires.fit; depot_lt_n = (c.requires.depot_lt_n.0, c.requires.depot_lt_n.1, c.requires.depot_lt_n.3, c.requires.depot_lt_n.2, search (part_laws, c.requires.fit, c.requires.depot_lt_n), search (part_laws, c.requires.fit, c.requires.depot_lt_n)) }
+may_fit-requires c = (c.requires.0, c.requires.1, c.requires.3, c.requires.2, search (part_laws, c.requires), search (part_laws, c.requires))
 
 pub returns : goal.returns
 returns c = search quick_is

@@ -1,17 +1,19 @@
 -- `put_stops` meets its contract: what the check does not find alone.
-use Prim.Native.Nat.{◌-◌}
-use borrow.Author.Rules.{rules}
-use Rattle.listing_numbers.specs.ListingWriteLaws.{writing_start, writing_end, writing_more, writing_room, room_front, stops_more, stops_end}
+use Rattle.listing_numbers.proofs.PageLaws.{putting_start, putting_end, putting_room, putting_more}
+use Rattle.listing_numbers.specs.ListingWriteLaws.{stops_more, stops_end}
+use Rattle.listing_numbers.specs.listing.Listing.{stop}
 use Rattle.listing_lines.proofs.put_stops.Goals as goal
 
-pub loop-i-init : goal.loop-i-init
-loop-i-init c = (writing_start _ _ _, search rules)
+pub loop-c-init : goal.loop-c-init
+loop-c-init c = putting_start _ _
 
-pub put_stop-p-requires : goal.put_stop-p-requires
-put_stop-p-requires c = room_front _ _ _ _ _ (writing_room _ _ _ _ _ _ c.loop-i.invariant.0 c.requires) (stops_more _ c.loop-i.i c.loop-i-test.true)
+pub put_field-requires : goal.put_field-requires
+unfolding stop
+put_field-requires c = putting_room c.loop-c.invariant _ _ (stops_more _ c.loop-c.c-index c.loop-c-test.true) c.requires
 
-pub loop-i-preserved : goal.loop-i-preserved
-loop-i-preserved c = (writing_more _ _ _ _ _ _ _ _ _ _ c.loop-i.invariant.0 (stops_more _ c.loop-i.i c.loop-i-test.true) c.put_stop-p.ensures, search rules)
+pub loop-c-preserved : goal.loop-c-preserved
+unfolding stop
+loop-c-preserved c = putting_more c.loop-c.invariant _ _ (stops_more _ c.loop-c.c-index c.loop-c-test.true) c.put_field.ensures
 
 pub returns : goal.returns
-returns c = writing_end _ _ _ _ _ _ c.loop-i.invariant.0 (stops_end _ c.loop-i.i c.loop-i-test.false)
+returns c = putting_end c.loop-c.invariant (stops_end _ c.loop-c.c-index c.loop-c-test.false)

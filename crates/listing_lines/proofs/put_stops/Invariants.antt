@@ -1,12 +1,8 @@
--- What the loops of `put_stops` keep.
-use Prim.Native.Nat.{◌≤◌, ◌-◌}
-use lib.ListN.{length, drop}
+-- What the loop of `put_stops` keeps.
+use lib.ListN.{drop}
 use Rattle.listing_numbers.specs.listing.Listing.{stops as Listing·stops}
-use Rattle.listing_numbers.specs.ListingWriteLaws.{Writing}
+use Rattle.listing_numbers.proofs.PageLaws.{Putting}
 use Rattle.listing_lines.proofs.put_stops.Given as goal
 
-abbrev pub invariant-loop-i : goal.invariant-loop-i
-invariant-loop-i l = Writing l.initial.out l.at (Listing·stops l.stops) l.out l.p (Listing·stops (drop l.i l.stops)) × (l.i ≤ length l.stops)
-
-abbrev pub decreases-loop-i : goal.decreases-loop-i
-decreases-loop-i l = length l.stops - l.i
+abbrev pub invariant-loop-c : goal.invariant-loop-c
+invariant-loop-c l = Putting l.initial.page (Listing·stops l.stops) l.page (Listing·stops (drop l.c-index l.stops))

@@ -1,11 +1,7 @@
--- What the loops of `put_routes` keep.
-use Prim.Native.Nat.{◌-◌}
-use lib.ListN.{length}
+-- What the loop of `put_routes` keeps.
+use Rattle.listing_lines.specs.models.Lent.{of_problem}
 use Rattle.listing_routes.proofs.LineLaws.{Lining}
 use Rattle.listing_routes.proofs.put_routes.Given as goal
 
 abbrev pub invariant-loop-k : goal.invariant-loop-k
-invariant-loop-k l = Lining l.n l.demand l.distances l.vehicle l.lengths l.stops l.initial.out l.at l.out l.p l.from l.k
-
-abbrev pub decreases-loop-k : goal.decreases-loop-k
-decreases-loop-k l = length l.lengths - l.k
+invariant-loop-k l = Lining (of_problem l.problem) l.lengths l.stops l.initial.page l.page l.from l.k

@@ -1,22 +1,13 @@
--- `put_refusal` meets its contract: what the check does not find alone.
-use Rattle.listing_numbers.specs.ListingWriteLaws.{text_more, text_last, room_first, room_more}
+-- `put_refusal` meets its contract: its definition is opened.
+use borrow.Author.Rules.{rules}
+use Rattle.listing_numbers.proofs.PageLaws.{page_gone}
 use Rattle.listing_numbers.specs.listing.Listing.{refusal_line}
 use Rattle.listing_totals.proofs.put_refusal.Goals as goal
 
-pub put_bytes-a-requires : goal.put_bytes-a-requires
+pub put_line-requires : goal.put_line-requires
 unfolding refusal_line
-put_bytes-a-requires c = room_first _ _ _ _ c.requires
-
-pub put_decimal-b-requires : goal.put_decimal-b-requires
-unfolding refusal_line
-put_decimal-b-requires c = room_first _ _ _ _ (room_more _ _ _ _ _ _ c.put_bytes-a.ensures c.requires)
-
-pub put_bytes-requires : goal.put_bytes-requires
-unfolding refusal_line
-put_bytes-requires c = room_first _ _ _ _ (room_more _ _ _ _ _ _ c.put_decimal-b.ensures (room_more _ _ _ _ _ _ c.put_bytes-a.ensures c.requires))
+put_line-requires c = record { room = c.requires }
 
 pub returns : goal.returns
 unfolding refusal_line
-returns c = text_more _ _ _ _ _ _ _ _ c.put_bytes-a.ensures
-    (text_more _ _ _ _ _ _ _ _ c.put_decimal-b.ensures
-    (text_last _ _ _ _ _ c.put_bytes.ensures))
+returns c = search (rules, page_gone)

@@ -1,25 +1,25 @@
 -- What the loops of `search` keep.
 use mathlib.Core.Path.{◌≡◌}
 use lib.ListN.{length, take}
-use Rattle.minimization_round.specs.models.Problem.{problem}
 use Rattle.minimization_round.specs.plan.Plan.{split, drop_zero}
 use Rattle.minimization_round.specs.route_order.Order.{following}
 use Rattle.minimization_round.specs.ejection_pool.Running.{allowance}
 use Rattle.minimization_round.specs.route_cost.Route.{cost}
 use Rattle.minimization_round.specs.LocalSearchSearchLaws.{Rounding, Trying}
 use Rattle.minimization_round.specs.pool_cost.Attempt.{attempt}
+use Rattle.minimization_round.specs.evaluation.Given.{of_instance}
 use Rattle.minimization_search.proofs.search.Given as goal
 
 abbrev pub invariant-loop-pick : goal.invariant-loop-pick
-invariant-loop-pick l = let p = problem l.n l.demand l.service l.ready l.due l.penalty l.flags l.distances l.times l.vehicle in
-    Trying (attempt (allowance l.limit l.clock l.tape) p) l.limit l.n l.initial.lengths l.initial.stops l.initial.counts l.count l.lengths l.stops l.counts l.last
+invariant-loop-pick l = let p = of_instance l.given in
+    Trying (attempt (allowance l.limit l.clock l.tape) p) l.limit l.given.fleet.net.roads.size l.initial.lengths l.initial.stops l.initial.counts l.count l.lengths l.stops l.counts l.last
     × (l.round.before ≡ cost p (split (take l.count l.initial.lengths) l.initial.stops)) × (length l.work ≡ length l.initial.work) × (length l.cells ≡ length l.initial.cells)
 
 abbrev pub decreases-loop-pick : goal.decreases-loop-pick
 decreases-loop-pick l = length (following (take l.count l.lengths) l.last)
 
 abbrev pub invariant-search : goal.invariant-search
-invariant-search l = Rounding (attempt (allowance l.limit l.clock l.tape) (problem l.n l.demand l.service l.ready l.due l.penalty l.flags l.distances l.times l.vehicle)) l.limit l.n l.initial.lengths l.initial.stops l.lengths l.stops l.counts
+invariant-search l = Rounding (attempt (allowance l.limit l.clock l.tape) (of_instance l.given)) l.limit l.given.fleet.net.roads.size l.initial.lengths l.initial.stops l.lengths l.stops l.counts
     × (length l.work ≡ length l.initial.work) × (length l.cells ≡ length l.initial.cells)
 
 abbrev pub decreases-search : goal.decreases-search

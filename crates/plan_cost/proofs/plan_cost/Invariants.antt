@@ -3,4 +3,4 @@ use Rattle.plan_cost.proofs.CostLaws.{Costing}
 use Rattle.plan_cost.proofs.plan_cost.Given as goal
 
 abbrev pub invariant-loop-length : goal.invariant-loop-length
-invariant-loop-length l = Costing l.n l.distances l.depot l.fixed l.lengths l.stops l.sum l.at l.length-index
+invariant-loop-length l = Costing l.roads l.depot l.fixed l.lengths l.stops l.sum l.at l.length-index

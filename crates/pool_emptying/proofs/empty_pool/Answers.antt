@@ -3,7 +3,7 @@ use Rattle.pool_emptying.proofs.StartLaws.{ones_running, ones_emptied}
 use Rattle.pool_emptying.proofs.empty_pool.Goals as goal
 
 pub empty_into-requires : goal.empty_into-requires
-empty_into-requires c = ones_running c.requires
+empty_into-requires c = ones_running c.requires _ c.size.ensures
 
 pub returns : goal.returns
-returns c = record { plan = ones_emptied c.requires _ _ c.empty_into.ensures.plan; held = c.empty_into.ensures.held }
+returns c = record { plan = ones_emptied c.requires _ c.size.ensures _ _ c.empty_into.ensures.plan; held = c.empty_into.ensures.held }

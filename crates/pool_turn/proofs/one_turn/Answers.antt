@@ -11,7 +11,7 @@ pub bounds-pool-m : goal.bounds-pool-m
 bounds-pool-m c = omega (arith, in_pool _ _ _ _ _ _ _ _ _ _ _ _ c.requires.running)
 
 pub place-requires : goal.place-requires
-place-requires c = record { admitted = c.requires.running.admitted; lent = (c.requires.running.lent, planned _ _ _ _ _ _ _ _ _ _ _ _ c.requires.running, top_place _ _ _ _ _ _ _ _ _ _ _ _ c.requires.running c.requires.count_nonzero.0, room_left _ _ _ _ _ _ _ _ _ _ _ _ c.requires.running c.requires.count_nonzero.0, c.requires.running.cells_room, c.requires.running.check) }
+place-requires c = (c.requires.running.lent, planned _ _ _ _ _ _ _ _ _ _ _ _ c.requires.running, top_place _ _ _ _ _ _ _ _ _ _ _ _ c.requires.running c.requires.count_nonzero.0, room_left _ _ _ _ _ _ _ _ _ _ _ _ c.requires.running c.requires.count_nonzero.0, c.requires.running.cells_room)
 
 pub overflow_add-after : goal.overflow_add-after
 overflow_add-after c = omega (arith, c.requires.count_nonzero.1)

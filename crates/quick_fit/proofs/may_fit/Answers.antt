@@ -3,8 +3,8 @@ use Rattle.std.proofs.Common.{rules}
 use Rattle.quick_fit.proofs.FitLaws.{before_there, fit_laws}
 use Rattle.quick_fit.proofs.may_fit.Goals as goal
 
-pub leave-requires-clause-prev_lt_n : goal.leave-requires-clause-prev_lt_n
-leave-requires-clause-prev_lt_n c = search (rules, before_there)
+pub leave-requires : goal.leave-requires
+leave-requires c = search (rules, before_there)
 
 pub returns-in_default : goal.returns-in_default
 returns-in_default c = search fit_laws

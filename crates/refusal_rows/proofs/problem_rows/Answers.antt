@@ -25,9 +25,9 @@ pub returns-then-not-windows_pass : goal.returns-then-not-windows_pass
 unfolding problem_rows windows_pass
 returns-then-not-windows_pass c = search rules
 
-pub returns-then-vehicle-n : goal.returns-then-vehicle-n
+pub returns-then-problem-size : goal.returns-then-problem-size
 unfolding problem_rows windows_pass
-returns-then-vehicle-n c = search rules
+returns-then-problem-size c = search rules
 
 pub returns : goal.returns
 unfolding problem_rows windows_pass

@@ -1,11 +1,6 @@
--- What the loops of `route_distance` keep.
-use Prim.Native.Nat.{◌-◌}
-use lib.ListN.{length}
+-- What the loop of `route_distance` keeps.
 use Rattle.route_cost.proofs.DistanceLaws.{Going}
 use Rattle.route_cost.proofs.route_distance.Given as goal
 
-abbrev pub invariant-loop-i : goal.invariant-loop-i
-invariant-loop-i l = Going l.n l.distances l.depot l.route l.dist l.prev l.i
-
-abbrev pub decreases-loop-i : goal.decreases-loop-i
-decreases-loop-i l = length l.route - l.i
+abbrev pub invariant-loop-c : goal.invariant-loop-c
+invariant-loop-c l = Going l.roads l.depot l.route l.rest l.dist l.prev l.c-index

@@ -10,11 +10,9 @@ pub returns-then-fails_more : goal.returns-then-fails_more
 returns-then-fails_more c = out_more _ _ _ _ _ _ _ _ _ _ c.failure_sum-failed.ensures c.fails_more.ensures c.if-fails_more.true
 
 pub try_left-requires : goal.try_left-requires
-try_left-requires c = record {
-  admitted = c.requires.sought.admitted;
-  c_lt_n = rw (kept_part _ _ _ _ _ c.requires.route_in_bounds.2 c.requires.route_in_bounds.3 c.keep-m.ensures.1 c.keep-m.ensures.0)
-      (c.requires.sought.place, kept_stops _ _ _ _ c.requires.route_in_bounds.2 c.requires.route_in_bounds.3 c.requires.sought.stops, c.requires.route_in_bounds.1, c.requires.sought.check);
-}
+try_left-requires c =
+    rw (kept_part _ _ _ _ _ c.requires.route_in_bounds.2 c.requires.route_in_bounds.3 c.keep-m.ensures.1 c.keep-m.ensures.0)
+    (c.requires.sought.place, kept_stops _ _ _ _ c.requires.route_in_bounds.2 c.requires.route_in_bounds.3 c.requires.sought.stops, c.requires.route_in_bounds.1)
 
 pub shape_of-work : goal.shape_of-work
 shape_of-work c = c.keep-m.auto.work

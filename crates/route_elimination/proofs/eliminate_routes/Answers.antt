@@ -16,7 +16,7 @@ pub slice_bounds-try_next-end-in-loop-pick : goal.slice_bounds-try_next-end-in-l
 slice_bounds-try_next-end-in-loop-pick c = sym (front_length _ _ _ c.loop-pick.invariant.0)
 
 pub try_next-next-requires : goal.try_next-next-requires
-try_next-next-requires c = record { eliminating = trying_eliminating _ c.loop-pick.invariant.0 _ c.requires.admitted (omega (arith, c.requires.work_room, c.search.invariant.1, c.loop-pick.invariant.1)); soft_value = (c.has_soft_windows-soft.ensures, c.constrained-needed.ensures, c.gain_floor-floor.ensures) }
+try_next-next-requires c = record { eliminating = trying_eliminating _ c.loop-pick.invariant.0 _ c.requires.admitted (omega (arith, c.requires.work_room, c.search.invariant.1, c.loop-pick.invariant.1)); soft_value = (rw c.flags.ensures at c.has_soft_windows-soft.ensures, rw c.distances.ensures at c.gain_floor-floor.ensures) }
 
 pub returns-in-End : goal.returns-in-End
 returns-in-End c = rounds_answer _ _ _ _ _ _

@@ -9,7 +9,7 @@ pub loop-pos-init : goal.loop-pos-init
 loop-pos-init c = search along_laws
 
 pub try_position-found-requires : goal.try_position-found-requires
-try_position-found-requires c = record { fit = c.loop-pos.invariant.fit; depot_id_bound = (c.loop-pos.invariant.home, c.loop-pos.invariant.there, search rules, c.loop-pos.invariant.stops, c.loop-pos.invariant.room, c.loop-pos.invariant.asked) }
+try_position-found-requires c = (c.loop-pos.invariant.there, search rules, c.loop-pos.invariant.stops, c.loop-pos.invariant.room)
 
 pub loop-pos-preserved : goal.loop-pos-preserved
 loop-pos-preserved c = along_more _ _ _ _ _ _ _ _ _ c.loop-pos.invariant _ (omega arith) c.try_position-found.ensures

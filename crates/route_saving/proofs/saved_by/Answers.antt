@@ -15,10 +15,10 @@ offset_bounds-stops-at c = let v = attempt_visit _ _ _ _ _ _ c.requires _ c.offs
 
 pub worth-own-requires : goal.worth-own-requires
 worth-own-requires c = let v = attempt_visit _ _ _ _ _ _ c.requires _ c.offset-at.ensures in
-    record { fit = c.requires.admitted.fit; depot_id_bound = (c.requires.admitted.depot_in, part_stops _ _ _ _ _ v c.requires.there, c.requires.soft_told) }
+    (part_stops _ _ _ _ _ v c.requires.there, c.requires.soft_told)
 
 pub returns : goal.returns
-returns c = saved_is _ _ _ _ _ _ _ _ _ _ _ _ _ _ _ c.requires _ c.offset-at.ensures _ _ c.worth-own.ensures c.fixed_cost_in_distance.ensures
+returns c = saved_is _ _ _ _ _ _ c.requires _ c.offset-at.ensures _ _ c.worth-own.ensures c.fixed_cost_in_distance.ensures
 
 pub slice_bounds-worth-end : goal.slice_bounds-worth-end
 slice_bounds-worth-end c = let v = attempt_visit _ _ _ _ _ _ c.requires _ c.offset-at.ensures in

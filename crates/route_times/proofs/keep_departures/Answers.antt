@@ -4,7 +4,7 @@ use Rattle.route_times.proofs.PrepareLaws.{part_laws}
 use Rattle.route_times.proofs.keep_departures.Goals as goal
 
 pub departures-requires : goal.departures-requires
-departures-requires c = record { fit = search (rules, part_laws); depot_lt_n = search (rules, part_laws) }
+departures-requires c = search (rules, part_laws)
 
 pub returns : goal.returns
 returns c = search part_laws

@@ -4,7 +4,7 @@ use Rattle.route_times.proofs.PrepareLaws.{part_laws}
 use Rattle.route_times.proofs.keep_latest.Goals as goal
 
 pub latest_arrivals-requires : goal.latest_arrivals-requires
-latest_arrivals-requires c = record { fit = search (rules, part_laws); depot_lt_n = search (rules, part_laws) }
+latest_arrivals-requires c = search (rules, part_laws)
 
 pub returns : goal.returns
 returns c = search part_laws

@@ -4,7 +4,7 @@ use Rattle.route_times.proofs.PrepareLaws.{times_laws}
 use Rattle.route_times.proofs.keep_times.Goals as goal
 
 pub keep_latest-requires : goal.keep_latest-requires
-keep_latest-requires c = record { fit = c.requires.fit; depot_lt_n = (c.requires.depot_lt_n.0, c.requires.depot_lt_n.1, omega (arith, c.requires.depot_lt_n.2, c.keep_departures.auto.cells)) }
+keep_latest-requires c = (c.requires.0, c.requires.1, omega (arith, c.requires.2, c.keep_departures.auto.cells))
 
 pub returns-then-keep_departures : goal.returns-then-keep_departures
 returns-then-keep_departures c = search times_laws

@@ -10,7 +10,7 @@ unfolding route_eval
 returns-in_err-walk c = grind (arith, common_steps)
 
 pub home-requires-clause-prev_lt_n : goal.home-requires-clause-prev_lt_n
-home-requires-clause-prev_lt_n c = (search (rules, drive_ends, c.in_ok-walk.was, c.requires.depot_lt_n), c.requires.depot_lt_n.0)
+home-requires-clause-prev_lt_n c = (search (rules, drive_ends, c.in_ok-walk.was, c.requires), c.requires.0)
 
 pub returns-in_default : goal.returns-in_default
 unfolding route_eval

@@ -23,29 +23,29 @@ slice_bounds-list_planned-end-4 c = sym (length-take-le _ c.args.stops.now (le_t
 pub slice_bounds-list_planned-end-5 : goal.slice_bounds-list_planned-end-5
 slice_bounds-list_planned-end-5 c = sym (length-take-le _ c.args.tape.now (omega (arith, c.requires.n_bound.2, c.requires.in_bounds_2.2)))
 
-pub slice_bounds-list_planned-end-6 : goal.slice_bounds-list_planned-end-6
-slice_bounds-list_planned-end-6 c = sym (length-take-le _ c.args.demand.now (le_trans c.requires.n_bound.0 c.requires.column_room.demands))
+pub slice_bounds-problem-end : goal.slice_bounds-problem-end
+slice_bounds-problem-end c = sym (length-take-le _ c.args.demand.now (le_trans c.requires.n_bound.0 c.requires.column_room.demands))
 
-pub slice_bounds-list_planned-end-7 : goal.slice_bounds-list_planned-end-7
-slice_bounds-list_planned-end-7 c = sym (length-take-le _ c.args.service.now (le_trans c.requires.n_bound.0 c.requires.column_room.services))
+pub slice_bounds-places-end : goal.slice_bounds-places-end
+slice_bounds-places-end c = sym (length-take-le _ c.args.service.now (le_trans c.requires.n_bound.0 c.requires.column_room.services))
 
-pub slice_bounds-list_planned-end-8 : goal.slice_bounds-list_planned-end-8
-slice_bounds-list_planned-end-8 c = sym (length-take-le _ c.args.ready.now (le_trans c.requires.n_bound.0 c.requires.column_room.readies))
+pub slice_bounds-places-end-2 : goal.slice_bounds-places-end-2
+slice_bounds-places-end-2 c = sym (length-take-le _ c.args.ready.now (le_trans c.requires.n_bound.0 c.requires.column_room.readies))
 
-pub slice_bounds-list_planned-end-9 : goal.slice_bounds-list_planned-end-9
-slice_bounds-list_planned-end-9 c = sym (length-take-le _ c.args.due.now (le_trans c.requires.n_bound.0 c.requires.column_room.dues))
+pub slice_bounds-places-end-3 : goal.slice_bounds-places-end-3
+slice_bounds-places-end-3 c = sym (length-take-le _ c.args.due.now (le_trans c.requires.n_bound.0 c.requires.column_room.dues))
 
-pub slice_bounds-list_planned-end-10 : goal.slice_bounds-list_planned-end-10
-slice_bounds-list_planned-end-10 c = sym (length-take-le _ c.args.penalty.now (le_trans c.requires.n_bound.0 c.requires.column_room.penalties))
+pub slice_bounds-places-end-4 : goal.slice_bounds-places-end-4
+slice_bounds-places-end-4 c = sym (length-take-le _ c.args.penalty.now (le_trans c.requires.n_bound.0 c.requires.column_room.penalties))
 
-pub slice_bounds-list_planned-end-11 : goal.slice_bounds-list_planned-end-11
-slice_bounds-list_planned-end-11 c = sym (length-take-le _ c.args.flags.now (le_trans c.requires.n_bound.0 c.requires.column_room.flag_cells))
+pub slice_bounds-places-end-5 : goal.slice_bounds-places-end-5
+slice_bounds-places-end-5 c = sym (length-take-le _ c.args.flags.now (le_trans c.requires.n_bound.0 c.requires.column_room.flag_cells))
 
-pub slice_bounds-list_planned-end-12 : goal.slice_bounds-list_planned-end-12
-slice_bounds-list_planned-end-12 c = sym (length-take-le _ c.args.distances.now (square_fits _ _ c.requires.n_bound.0 c.requires.in_bounds_3.0))
+pub slice_bounds-roads-end : goal.slice_bounds-roads-end
+slice_bounds-roads-end c = sym (length-take-le _ c.args.distances.now (square_fits _ _ c.requires.n_bound.0 c.requires.in_bounds_3.0))
 
-pub slice_bounds-list_planned-end-13 : goal.slice_bounds-list_planned-end-13
-slice_bounds-list_planned-end-13 c = sym (length-take-le _ c.args.times.now (square_fits _ _ (omega (arith, c.requires.n_bound.0, c.requires.n_bound.1)) c.requires.in_bounds_3.1))
+pub slice_bounds-roads-end-2 : goal.slice_bounds-roads-end-2
+slice_bounds-roads-end-2 c = sym (length-take-le _ c.args.times.now (square_fits _ _ (omega (arith, c.requires.n_bound.0, c.requires.n_bound.1)) c.requires.in_bounds_3.1))
 
 pub list_planned-requires : goal.list_planned-requires
 list_planned-requires c = record { in_bounds = (c.requires.in_bounds.0, omega (arith, c.requires.n_bound.3, length-take-le c.args.given c.args.lengths.now (le_trans c.requires.n_bound.3 c.requires.in_bounds_2.0)), omega (arith, c.requires.n_bound.4, length-take-le c.args.used c.args.stops.now (le_trans c.requires.n_bound.4 c.requires.in_bounds_2.1)), c.requires.in_bounds.1, c.requires.in_bounds.2); short = c.requires.short }

@@ -1,13 +1,12 @@
 -- `distances` meets its contract: what the check does not find alone.
-use mathlib.Core.Path.{◌∙◌}
-use Rattle.sheet_squares.specs.sheet_format.Form.{distances}
-use Rattle.sheet_roads.proofs.RoadLaws.{section_of, no_section}
+use Rattle.sheet_squares.specs.sheet_format.Form.{distances, row_by_row}
+use Rattle.sheet_squares.specs.SheetTextReadLaws.{handed_as, seen_then, seen_stop}
 use Rattle.sheet_roads.proofs.distances.Goals as goal
 
-pub returns-in_err-i : goal.returns-in_err-i
+pub returns-in_err-heading : goal.returns-in_err-heading
 unfolding distances
-returns-in_err-i c = no_section _ _ _ _ c.from_residual.ensures.1 (rw (← c.in_err-i.ensures))
+returns-in_err-heading c = handed_as _ _ _ c.from_residual.ensures.1 (seen_stop row_by_row _ c.in_err-heading.ensures)
 
 pub returns : goal.returns
 unfolding distances
-returns c = rw (← c.in_ok-i.ensures, c.ok_or.ensures.value) (section_of _ c.square.result ∙ c.square.ensures)
+returns c = seen_then row_by_row _ c.in_ok-heading.ensures c.square.ensures

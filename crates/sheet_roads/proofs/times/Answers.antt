@@ -1,37 +1,27 @@
 -- `times` meets its contract: what the check does not find alone.
-use borrow.Author.Rules.{rules}
-use Rattle.sheet_squares.specs.SheetReaderSectionLaws.{no_count, filled_at, filled_bad}
-use Rattle.sheet_squares.specs.SheetTextReadLaws.{err_mapped, form_mapped}
+use Rattle.sheet_squares.specs.sheet_format.Form.{times, row_by_row}
+use Rattle.sheet_squares.specs.SheetTextReadLaws.{handed_as, seen_then, seen_stop}
 use Rattle.sheet_roads.proofs.RoadLaws.{times_none, times_other, times_all}
-use Rattle.sheet_squares.specs.sheet_format.Form.{times}
 use Rattle.sheet_roads.proofs.times.Goals as goal
 
-pub returns-in_err-m : goal.returns-in_err-m
+pub returns-in_err-m-clause-read : goal.returns-in_err-m-clause-read
 unfolding times
-returns-in_err-m c = record {
-  result_after = err_mapped _ _ _ _ c.from_residual.ensures.1 (rw (← c.in_err-m.ensures));
-  at_most = no_count _ _ _ c.from_residual.ensures.1;
-}
+returns-in_err-m-clause-read c = handed_as _ _ _ c.from_residual.ensures.1 (seen_stop row_by_row _ c.in_err-m.ensures)
 
-pub returns-then-m-eq0 : goal.returns-then-m-eq0
+pub returns-then-m-eq0-clause-read : goal.returns-then-m-eq0-clause-read
 unfolding times
-returns-then-m-eq0 c = record { result_after = rw (← c.in_ok-m.ensures) (times_none _ _ _ _ c.args.cells.now c.if-m-eq0.true); at_most = search rules }
+returns-then-m-eq0-clause-read c = seen_then row_by_row _ c.in_ok-m.ensures (times_none _ _ c.args.cells.now c.if-m-eq0.true)
 
-pub returns-then-m-n : goal.returns-then-m-n
+pub returns-then-m-n-clause-read : goal.returns-then-m-n-clause-read
 unfolding times
-returns-then-m-n c = record { result_after = rw (← c.in_ok-m.ensures) (times_other _ _ _ _ c.if-m-eq0.false c.if-m-n.true); at_most = tt }
+returns-then-m-n-clause-read c = seen_then row_by_row _ c.in_ok-m.ensures (times_other _ _ c.if-m-eq0.false c.if-m-n.true)
 
-pub returns-in_err-e : goal.returns-in_err-e
+pub returns-in_err-square-clause-read : goal.returns-in_err-square-clause-read
 unfolding times
-returns-in_err-e c = record {
-  result_after = form_mapped _ _ _ _ c.from_residual-in_err-e.ensures.1 _ c.in_err-e.ensures.value c.in_err-e.ensures.ok_part
-      (rw (← c.in_ok-m.ensures) (times_all _ _ _ _ _ c.if-m-eq0.false c.if-m-n.false (filled_bad _ _ _ c.in_err-e.ensures.ok_part c.square.ensures)));
-  at_most = no_count _ _ _ c.from_residual-in_err-e.ensures.1;
-}
+returns-in_err-square-clause-read c =
+    handed_as _ _ _ c.from_residual-in_err-square.ensures.1
+    (seen_then row_by_row _ c.in_ok-m.ensures (times_all _ _ c.if-m-eq0.false c.if-m-n.false c.in_err-square.ensures))
 
-pub returns : goal.returns
+pub returns-clause-read : goal.returns-clause-read
 unfolding times
-returns c = record {
-  result_after = rw (← c.in_ok-m.ensures) (times_all _ _ _ _ _ c.if-m-eq0.false c.if-m-n.false (filled_at _ _ _ _ c.in_ok-e.ensures.ok_part c.square.ensures));
-  at_most = search rules;
-}
+returns-clause-read c = seen_then row_by_row _ c.in_ok-m.ensures (times_all _ _ c.if-m-eq0.false c.if-m-n.false c.in_ok-square.ensures)

@@ -4,13 +4,13 @@ use Rattle.stop_exchange.proofs.ExchangeLaws.{exchanged_lent, exchanged_planned,
 use Rattle.stop_exchange.proofs.try_exchange.Goals as goal
 
 pub both_feasible-requires : goal.both_feasible-requires
-both_feasible-requires c = record { admitted = c.requires.admitted; a_in_bounds = (search (stop_route, c.requires.admitted, c.requires.fact), search (stop_route, c.requires.admitted, c.requires.fact), search (exchanged_lent, c.requires.admitted, c.requires.fact, c.exchange_stops), search (exchanged_planned, c.requires.admitted, c.requires.fact, c.exchange_stops), c.requires.fact.5) }
+both_feasible-requires c = (search (stop_route, c.requires), search (stop_route, c.requires), search (exchanged_lent, c.requires, c.exchange_stops), search (exchanged_planned, c.requires, c.exchange_stops))
 
 pub returns-then-both_feasible : goal.returns-then-both_feasible
-returns-then-both_feasible c = search (exchange_stays, c.requires.admitted, c.requires.fact, c.exchange_stops)
+returns-then-both_feasible c = search (exchange_stays, c.requires, c.exchange_stops)
 
 pub exchange_stops-requires-2 : goal.exchange_stops-requires-2
-exchange_stops-requires-2 c = record { lent = search (exchanged_lent, c.requires.admitted, c.requires.fact, c.exchange_stops); fact = (c.requires.fact.0, search (exchanged_first, c.requires.admitted, c.requires.fact, c.exchange_stops), search (exchanged_second, c.requires.admitted, c.requires.fact, c.exchange_stops)) }
+exchange_stops-requires-2 c = record { lent = search (exchanged_lent, c.requires, c.exchange_stops); fact = (c.requires.0, search (exchanged_first, c.requires, c.exchange_stops), search (exchanged_second, c.requires, c.exchange_stops)) }
 
 pub returns : goal.returns
-returns c = search (exchange_undone, c.requires.admitted, c.requires.fact, c.exchange_stops, c.both_feasible)
+returns c = search (exchange_undone, c.requires, c.exchange_stops, c.both_feasible)

@@ -7,7 +7,7 @@ pub slice_bounds-reach_all-end : goal.slice_bounds-reach_all-end
 slice_bounds-reach_all-end c = search part_laws
 
 pub reach_all-requires : goal.reach_all-requires
-reach_all-requires c = record { fit = search part_laws; prev_lt_n = search (part_laws, out_there) }
+reach_all-requires c = search (part_laws, out_there)
 
 pub returns : goal.returns
 returns c = search front_is

@@ -4,7 +4,7 @@ use Rattle.route_checks.specs.BreakClockStopLaws.{part_laws}
 use Rattle.trial_route.proofs.reach_tail.Goals as goal
 
 pub reach_all-requires : goal.reach_all-requires
-reach_all-requires c = record { fit = search part_laws; prev_lt_n = search part_laws }
+reach_all-requires c = search part_laws
 
 pub returns : goal.returns
 returns c = search tail_is

@@ -7,7 +7,7 @@ pub slice_bounds-ride_all-end : goal.slice_bounds-ride_all-end
 slice_bounds-ride_all-end c = search part_laws
 
 pub ride_all-requires : goal.ride_all-requires
-ride_all-requires c = record { fit = search part_laws; prev_lt_n = search (part_laws, out_there, front_few) }
+ride_all-requires c = search (part_laws, out_there, front_few)
 
 pub returns : goal.returns
 returns c = search front_is

@@ -4,7 +4,7 @@ use Rattle.route_checks.specs.BreakClockStopLaws.{part_laws}
 use Rattle.trial_route.proofs.ride_tail.Goals as goal
 
 pub ride_all-requires : goal.ride_all-requires
-ride_all-requires c = record { fit = search part_laws; prev_lt_n = search (part_laws, tail_few) }
+ride_all-requires c = search (part_laws, tail_few)
 
 pub returns : goal.returns
 returns c = search tail_is

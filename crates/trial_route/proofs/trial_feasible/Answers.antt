@@ -7,7 +7,7 @@ pub returns-in_default-walked : goal.returns-in_default-walked
 returns-in_default-walked c = search trial_feasible_laws
 
 pub home_allowed-requires-clause-prev_lt_n : goal.home_allowed-requires-clause-prev_lt_n
-home_allowed-requires-clause-prev_lt_n c = (search (trial_there, c.requires.depot_lt_n, c.trial_reached-walked), c.requires.depot_lt_n.0)
+home_allowed-requires-clause-prev_lt_n c = (search (trial_there, c.requires, c.trial_reached-walked), c.requires.0)
 
 pub returns-in_default : goal.returns-in_default
 returns-in_default c = search trial_feasible_laws
@@ -16,7 +16,7 @@ pub returns-in_default-ridden : goal.returns-in_default-ridden
 returns-in_default-ridden c = search trial_feasible_laws
 
 pub ride_home-e-requires-clause-prev_lt_n : goal.ride_home-e-requires-clause-prev_lt_n
-ride_home-e-requires-clause-prev_lt_n c = (search (ride_there, c.requires.depot_lt_n, c.trial_ridden-ridden), c.requires.depot_lt_n.0)
+ride_home-e-requires-clause-prev_lt_n c = (search (ride_there, c.requires, c.trial_ridden-ridden), c.requires.0)
 
 pub returns : goal.returns
 returns c = search trial_feasible_laws

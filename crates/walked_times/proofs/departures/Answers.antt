@@ -7,7 +7,7 @@ pub loop-i-init : goal.loop-i-init
 loop-i-init c = search leaving_laws
 
 pub leave-requires : goal.leave-requires
-leave-requires c = record { fit = search leaving_needs; prev_lt_n = search leaving_needs }
+leave-requires c = search leaving_needs
 
 pub returns-in_default : goal.returns-in_default
 returns-in_default c = search leaving_laws

@@ -13,7 +13,7 @@ pub bounds-route-i : goal.bounds-route-i
 bounds-route-i c = search backing_needs
 
 pub latest_arrival-by-requires : goal.latest_arrival-by-requires
-latest_arrival-by-requires c = record { fit = c.loop-i.invariant.fit; c_lt_n = (c.loop-i.invariant.places.each _ (search backing_needs), c.loop-i.invariant.there) }
+latest_arrival-by-requires c = (c.loop-i.invariant.places.each _ (search backing_needs), c.loop-i.invariant.there)
 
 pub offset_bounds-out-i : goal.offset_bounds-out-i
 offset_bounds-out-i c = search backing_needs

@@ -4,4 +4,4 @@ use Rattle.evaluation.proofs.CheckLaws.{reach_ends}
 use Rattle.evaluation.proofs.check.route_feasible.Goals as goal
 
 pub home_allowed-requires-clause-prev_lt_n : goal.home_allowed-requires-clause-prev_lt_n
-home_allowed-requires-clause-prev_lt_n c = (search (rules, reach_ends, c.requires.depot_lt_n), c.requires.depot_lt_n.0)
+home_allowed-requires-clause-prev_lt_n c = (search (rules, reach_ends, c.requires), c.requires.0)

@@ -2,8 +2,8 @@
 use Rattle.route_load.proofs.FeasibleLaws.{check_laws}
 use Rattle.local_search.proofs.feasible.trial_ok.Goals as goal
 
-pub returns-then-needed : goal.returns-then-needed
-returns-then-needed c = search check_laws
+pub returns-then-fleet : goal.returns-then-fleet
+returns-then-fleet c = search check_laws
 
 pub returns : goal.returns
 returns c = search check_laws

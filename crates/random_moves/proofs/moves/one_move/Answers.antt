@@ -4,10 +4,10 @@ use native.Mathlib.Omega.{arith}
 use Rattle.random_moves.proofs.moves.one_move.Goals as goal
 
 pub other_than-b-requires : goal.other_than-b-requires
-other_than-b-requires c = omega (arith, drawn_below _ _ _ _ (omega (arith, c.requires.movable.2)) c.draw.ensures)
+other_than-b-requires c = omega (arith, drawn_below _ _ _ _ (omega (arith, c.requires.2)) c.draw.ensures)
 
 pub move_between-requires : goal.move_between-requires
-move_between-requires c = record { admitted = c.requires.admitted; movable = (c.requires.movable.0, c.requires.movable.1, pair_drawn _ _ _ _ _ _ _ c.draw-a.ensures c.draw.ensures c.other_than-b.ensures c.requires.movable.2, c.requires.movable.3) }
+move_between-requires c = (c.requires.0, c.requires.1, pair_drawn _ _ _ _ _ _ _ c.draw-a.ensures c.draw.ensures c.other_than-b.ensures c.requires.2)
 
 pub returns : goal.returns
 returns c = let w = move_drawn _ _ _ _ _ _ _ c.draw-a.ensures c.draw.ensures c.other_than-b.ensures _ _ _ _ _ (c.move_between.ensures.plan, c.move_between.ensures.draws) in record { plan = w.0; draws = w.1 }

@@ -1,10 +1,6 @@
--- What the loops of `cases::calls_at` keep.
-use mathlib.Core.Path.{◌≡◌}
-use lib.ListN.{length}
+-- What the loop of `cases::calls_at` keeps.
+use Rattle.replayed_calls.specs.tally.Tally.{Counted}
 use Rattle.replay.proofs.cases.calls_at.Given as goal
 
-abbrev pub invariant-loop-left : goal.invariant-loop-left
-invariant-loop-left l = (length l.lengths ≡ length l.initial.lengths) × (length l.stops ≡ length l.initial.stops)
-
-abbrev pub decreases-loop-left : goal.decreases-loop-left
-decreases-loop-left l = l.left
+abbrev pub invariant-loop : goal.invariant-loop
+invariant-loop l = Counted l.initial.tally l.tally

@@ -3,29 +3,22 @@ use Prim.Native.Nat.{◌+◌, ◌-◌}
 use mathlib.Core.Path.{◌≡◌, ◌∙◌}
 use native.Mathlib.Omega.{arith}
 use Rattle.sheet_reader.proofs.PlaceLaws.{room_now, sizes_same, places_start, places_end, places_fault, places_turn}
-use Rattle.sheet_reader.specs.Cells.{columns_of}
-use Rattle.sheet_reader.proofs.SectionLaws.{none_filled}
-use Rattle.sheet_cells.specs.sheet_format.Form.{place}
-use Rattle.sheet_cells.specs.sheet_text.Text.{repeat}
+use Rattle.sheet_cells.specs.SheetTextReadLaws.{handed_as}
 use Rattle.sheet_reader.proofs.places.place_rows.Goals as goal
 
 pub loop-i-init : goal.loop-i-init
-loop-i-init c = let all : c.args.n - 0 ≡ c.args.n = omega arith in record {
-  read = rw all (places_start
-      (columns_of c.args.demand.now c.args.service.now c.args.ready.now c.args.due.now c.args.penalty.now c.args.flags.now)
-      (repeat c.args.n (λ l. place) c.args.s.now c.args.at));
-  same = sizes_same _;
-}
+loop-i-init c = let all : c.args.n - 0 ≡ c.args.n = omega arith in record { left = rw all (places_start _ _ _); same = sizes_same _ }
 
 pub place_row-requires : goal.place_row-requires
 place_row-requires c = room_now _ _ _ (c.loop-i.i + 1) c.requires c.loop-i.invariant.same (omega arith)
 
-pub returns-in_err-a : goal.returns-in_err-a
-returns-in_err-a c = let l = c.loop-i in none_filled _ _ _ c.from_residual.ensures (places_fault _ _ _ l.i l.a (c.args.n - l.i) l.invariant.read (c.args.n - (l.i + 1)) (omega arith) c.in_err-a.ensures)
+pub returns-in_err-place_row : goal.returns-in_err-place_row
+returns-in_err-place_row c = let l = c.loop-i in
+    handed_as _ _ _ c.from_residual.ensures.1 (places_fault _ l.i (c.args.n - l.i) l.invariant.left (c.args.n - (l.i + 1)) (omega arith) c.in_err-place_row.ensures)
 
 pub loop-i-preserved : goal.loop-i-preserved
 loop-i-preserved c = let l = c.loop-i in record {
-  read = places_turn _ _ _ l.i l.a (c.args.n - l.i) l.invariant.read (c.args.n - (l.i + 1)) (omega arith) _ _ c.in_ok-a.ensures;
+  left = places_turn _ l.i (c.args.n - l.i) l.invariant.left (c.args.n - (l.i + 1)) (omega arith) _ c.in_ok-place_row.ensures;
   same = record {
     demands = c.place_row.auto.demand ∙ l.invariant.same.demands;
     services = c.place_row.auto.service ∙ l.invariant.same.services;
@@ -37,4 +30,4 @@ loop-i-preserved c = let l = c.loop-i in record {
 }
 
 pub returns : goal.returns
-returns c = let l = c.loop-i in places_end _ _ _ l.i l.a (c.args.n - l.i) l.invariant.read _ (omega arith) (omega arith)
+returns c = let l = c.loop-i in places_end _ l.i (c.args.n - l.i) l.invariant.left _ (omega arith) (omega arith)

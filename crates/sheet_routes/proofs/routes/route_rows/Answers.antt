@@ -2,38 +2,31 @@
 use Prim.Native.Nat.{◌-◌, ◌+◌}
 use mathlib.Core.Path.{◌≡◌}
 use native.Mathlib.Omega.{arith}
-use Rattle.sheet_routes.proofs.RouteLaws.{routes_start, route_few, routes_end, routes_fault, routes_turn, no_plan}
-use Rattle.sheet_reader.specs.SheetTextReadLaws.{err_mapped}
-use Rattle.sheet_reader.specs.sheet_format.Form.{route_lines}
+use Rattle.sheet_routes.proofs.RouteLaws.{routes_start, route_few, routes_end, routes_fault, routes_turn}
+use Rattle.sheet_reader.specs.SheetTextReadLaws.{handed_as}
 use Rattle.sheet_routes.proofs.routes.route_rows.Goals as goal
 
 pub loop-r-init : goal.loop-r-init
-loop-r-init c = let all : c.args.n - 0 ≡ c.args.n = omega arith in record {
-  read = rw all (routes_start c.args.lengths.now c.args.stops.now (route_lines c.args.n 64 c.args.s.now c.args.at));
-  few = omega arith;
-}
+loop-r-init c = let all : c.args.n - 0 ≡ c.args.n = omega arith in record { read = rw all (routes_start c.args.lengths.now c.args.stops.now _ _); few = omega arith }
 
-pub returns-in_err-k : goal.returns-in_err-k
-returns-in_err-k c = let l = c.loop-r in record {
-  result_after = err_mapped _ _ _ _ c.from_residual.ensures.1
-      (routes_fault _ _ _ _ l.r l.used l.a (c.args.n - l.r) l.invariant.read (c.args.n - (l.r + 1)) (omega arith) _ c.in_err-k.ensures);
-  plan_within = no_plan _ _ _ c.from_residual.ensures.1;
-}
+pub returns-in_err-k-clause-read : goal.returns-in_err-k-clause-read
+returns-in_err-k-clause-read c = let l = c.loop-r in
+    handed_as _ _ _ c.from_residual.ensures.1 (routes_fault _ _ l.r l.used (c.args.n - l.r) l.invariant.read (c.args.n - (l.r + 1)) (omega arith) c.in_err-k.ensures)
 
 pub overflow_cast-lengths : goal.overflow_cast-lengths
-overflow_cast-lengths c = omega (arith, route_few _ _ c.loop-r.used _ _ _ _ c.in_ok-k.ensures)
+overflow_cast-lengths c = omega (arith, route_few c.loop-r.used _ c.in_ok-k.ensures)
 
 pub overflow_add-used : goal.overflow_add-used
-overflow_add-used c = omega (arith, c.loop-r.invariant.few, route_few _ _ c.loop-r.used _ _ _ _ c.in_ok-k.ensures)
+overflow_add-used c = omega (arith, c.loop-r.invariant.few, route_few c.loop-r.used _ c.in_ok-k.ensures)
 
 pub loop-r-preserved : goal.loop-r-preserved
 loop-r-preserved c = let l = c.loop-r in record {
-  read = routes_turn _ _ _ _ l.r l.used l.a (c.args.n - l.r) l.invariant.read (c.args.n - (l.r + 1)) (omega arith) (omega arith) _ _ _ c.in_ok-k.ensures;
-  few = omega (arith, l.invariant.few, route_few _ _ l.used _ _ _ _ c.in_ok-k.ensures);
+  read = routes_turn _ _ l.r l.used (c.args.n - l.r) l.invariant.read (c.args.n - (l.r + 1)) (omega arith) _ (omega arith) c.in_ok-k.ensures;
+  few = omega (arith, l.invariant.few, route_few l.used _ c.in_ok-k.ensures);
 }
 
 pub returns : goal.returns
 returns c = let l = c.loop-r in record {
-  result_after = routes_end _ _ _ _ l.r l.used l.a (c.args.n - l.r) l.invariant.read _ (omega arith) (omega arith);
+  read = routes_end _ _ l.r l.used (c.args.n - l.r) l.invariant.read _ (omega arith) (omega arith);
   plan_within = (omega arith, l.invariant.few);
 }

@@ -1,8 +1,7 @@
 -- `sheet::sheet` meets its contract: what the check does not find alone.
 use mathlib.Core.Path.{sym}
-use Rattle.sheet_whole.proofs.SheetLaws.{no_sheet_within, no_problem, no_request, sheet_got}
+use Rattle.sheet_whole.proofs.SheetLaws.{err_mapped, no_sheet_within, no_problem, no_request, sheet_got}
 use Rattle.sheet_draws.specs.sheet_format.Faults.{too_long}
-use Rattle.sheet_draws.specs.SheetTextReadLaws.{err_mapped}
 use Rattle.sheet_whole.proofs.sheet.sheet.Goals as goal
 
 pub returns-then-s-gt-MOST_BYTES : goal.returns-then-s-gt-MOST_BYTES
@@ -13,18 +12,18 @@ request-requires c = c.requires.in_bounds
 
 pub returns-in_err-head : goal.returns-in_err-head
 returns-in_err-head c = record {
-  result_after = err_mapped _ _ _ _ c.from_residual.ensures.1 (no_problem _ c.if-s-gt-MOST_BYTES.false _ c.in_err-head.ensures.result_after);
+  result_after = err_mapped _ _ _ _ c.from_residual.ensures.1 (no_problem c.if-s-gt-MOST_BYTES.false c.in_err-head.ensures.read);
   sheet_within = no_sheet_within _ _ c.from_residual.ensures.1;
 }
 
 pub returns-in_err-request : goal.returns-in_err-request
 returns-in_err-request c = record {
-  result_after = err_mapped _ _ _ _ c.from_residual-in_err-request.ensures.1 (no_request _ c.if-s-gt-MOST_BYTES.false _ _ c.in_ok-head.ensures.result_after _ c.in_err-request.ensures.result_after);
+  result_after = err_mapped _ _ _ _ c.from_residual-in_err-request.ensures.1 (no_request c.if-s-gt-MOST_BYTES.false c.in_ok-head.ensures.read c.in_err-request.ensures.read);
   sheet_within = no_sheet_within _ _ c.from_residual-in_err-request.ensures.1;
 }
 
 pub returns : goal.returns
 returns c = let w = c.in_ok-head.ensures.problem_within in let v = c.in_ok-request.ensures.request_within in record {
-  result_after = sheet_got _ c.if-s-gt-MOST_BYTES.false _ _ c.in_ok-head.ensures.result_after _ _ c.in_ok-request.ensures.result_after;
+  result_after = sheet_got c.if-s-gt-MOST_BYTES.false c.in_ok-head.ensures.read c.in_ok-request.ensures.read;
   sheet_within = (w.0, w.1, v.0, v.1, v.2);
 }

@@ -4,10 +4,10 @@ use Rattle.stop_exchange.proofs.ExchangeLaws.{stands_laws}
 use Rattle.stop_exchange.proofs.check.both_feasible.Goals as goal
 
 pub within_at-requires : goal.within_at-requires
-within_at-requires c = (demands_own _ _ c.requires.admitted.demands, c.requires.a_in_bounds.0, c.requires.a_in_bounds.2, rw c.requires.admitted.demands.cells c.requires.a_in_bounds.3)
+within_at-requires c = (demands_own _ _ c.args.given.now.admitted.demands, c.requires.0, c.requires.2, rw c.args.given.now.admitted.demands.cells c.requires.3)
 
 pub within_at-requires-then-within_at : goal.within_at-requires-then-within_at
-within_at-requires-then-within_at c = (demands_own _ _ c.requires.admitted.demands, c.requires.a_in_bounds.1, c.requires.a_in_bounds.2, rw c.requires.admitted.demands.cells c.requires.a_in_bounds.3)
+within_at-requires-then-within_at c = (demands_own _ _ c.args.given.now.admitted.demands, c.requires.1, c.requires.2, rw c.args.given.now.admitted.demands.cells c.requires.3)
 
 pub returns-then-checked_at : goal.returns-then-checked_at
 returns-then-checked_at c = search stands_laws

@@ -7,10 +7,10 @@ pub overflow_add-end : goal.overflow_add-end
 overflow_add-end c = search route_laws
 
 pub offset_bounds-stops-at : goal.offset_bounds-stops-at
-offset_bounds-stops-at c = search (rules, route_end _ _ _ _ _ c.requires.depot_id_bound.2 c.requires.depot_id_bound.3 c.requires.depot_id_bound.1 c.offset-at.ensures)
+offset_bounds-stops-at c = search (rules, route_end _ _ _ _ _ c.requires.1 c.requires.2 c.requires.0 c.offset-at.ensures)
 
 pub checked-requires : goal.checked-requires
-checked-requires c = record { fit = search route_laws; depot_id_bound = search route_laws }
+checked-requires c = search route_laws
 
 pub returns : goal.returns
 returns c = search (route_checked, rules)

@@ -1,0 +1,3 @@
+-- Laws of what is asked.
+-- the questions, by their kinds
+pub mod AskLaws

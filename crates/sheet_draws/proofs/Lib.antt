@@ -1,0 +1,2 @@
+-- draws that are kept as they are
+pub mod DrawLaws

@@ -1,0 +1,2 @@
+-- the laws that the readers lean on
+pub mod Readers

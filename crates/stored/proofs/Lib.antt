@@ -1,3 +1,0 @@
--- Laws of the readers.
--- a count within a list
-pub mod Counting

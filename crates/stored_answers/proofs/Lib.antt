@@ -1,3 +1,0 @@
--- Laws of answers as they are stored.
--- what is written down
-pub mod AnswerLaws

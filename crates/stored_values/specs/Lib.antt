@@ -1,0 +1,3 @@
+-- What stored numbers stand for.
+-- the kinds of calls
+pub mod Kinds
