@@ -19,6 +19,7 @@ pub record Problem : Type 0 where
   pub roads : DistanceMatrix
   pub vehicle : Vehicle
 
+-- a problem of its four parts
 abbrev pub problem_of : List ℤ → Customers → DistanceMatrix → Vehicle → Problem
 problem_of demand places roads vehicle = record { demand = demand; places = places; roads = roads; vehicle = vehicle }
 
@@ -31,11 +32,12 @@ problem n demand service ready due penalty flags distances times vehicle =
 abbrev pub of_demand : List ℤ → Vehicle → Problem
 of_demand demand vehicle = problem 0 demand [] [] [] [] [] [] [] vehicle
 
-abbrev pub of_roads : DistanceMatrix → Vehicle → Problem
-of_roads roads vehicle = problem_of [] (customers [] [] [] [] []) roads vehicle
-
 abbrev pub of_distances : ℕ → List Float → Vehicle → Problem
 of_distances n distances vehicle = problem n [] [] [] [] [] [] distances [] vehicle
+
+-- the roads and a vehicle, for the cost of a plan, which reads no place and no demand
+abbrev pub of_roads : DistanceMatrix → Vehicle → Problem
+of_roads roads vehicle = problem_of [] (customers [] [] [] [] []) roads vehicle
 
 -- the depot of a problem, where every route starts and ends
 abbrev pub depot : Problem → ℕ

@@ -1,4 +1,4 @@
--- The kinds of stored calls and their numbers. Assumes nothing.
+-- The kinds of stored calls and their numbers, those of `KINDS` of the comparison. Assumes nothing.
 use Rattle.std.specs.Prelude.{ℕ, List, [], ◌∷◌, codes}
 use Rattle.stored_values.specs.declared.kinds.Kind.{Kind}
 use Rattle.stored_values.specs.declared.kinds.Kind.TheVariants.{Minimise, Eliminate, RouteFeasible, RouteEval, EffectiveCost, Schedule, RouteDistance, LatenessBound, GainFloor, TimeWindowNew}
