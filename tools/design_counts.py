@@ -39,7 +39,7 @@ def functions():
             rest = text[found.start():]
             body = re.search(r"(?ms)^%s\{\n(.*?)^%s\}" % (found.group(1), found.group(1)), rest)
             short = re.search(r"(?m)\{\n", rest)
-            if body:
+            if body and body.start() <= short.start():
                 yield name, found.group(2), rest[:body.start()], body.group(1)
             elif short:
                 end = re.search(r"(?m)^%s\}" % found.group(1), rest)

@@ -3,17 +3,13 @@
 #![tactic(auto)]
 
 ghost use Rattle.std.specs.Prelude.{◌≡◌, [], length};
-ghost use Rattle.c_evaluations.specs.planner.Calls.{answered};
 ghost use Rattle.c_evaluations.specs.planner.Told.{told};
 ghost use Rattle.c_evaluations.specs.c_values.Said.{values, says, put, checked_values, number_values, window_values, reduction_values};
 
-use c_evaluations::{Reduction, Refusal, TimeWindow, put_numbers};
+use c_evaluations::{Reduction, Refusal, TimeWindow};
 
 // Of the crates below, passed on to those above.
-pub use c_evaluations::{
-    checked_misfit, evaluated_misfit, list_misfit, number_misfit, put_evaluated, reply_misfit,
-    sheet_misfit, window_misfit,
-};
+pub use c_evaluations::{Shape, put_evaluated};
 
 // Yes or no.
 pub fn put_checked(found: &mut [u64], a: Result<bool, Refusal>) -> u8
@@ -22,7 +18,7 @@ pub fn put_checked(found: &mut [u64], a: Result<bool, Refusal>) -> u8
 {
     match a {
         Ok(passes) => {
-            found[0] = if passes { 1 } else { 0 };
+            found[0] = u64::from(passes);
             0
         }
         Err(refusal) => refusal.number(),
@@ -44,24 +40,15 @@ pub fn put_number(out: &mut [f64], a: Result<f64, Refusal>) -> u8
 }
 
 // A window.
-pub fn put_window(out: &mut [f64], found: &mut [u64], w: Option<TimeWindow>) -> u8
+pub fn put_window(out: &mut [f64], found: &mut [u64], w: Option<TimeWindow>)
     requires { (length out.old ≡ 2) × (length found.old ≡ 1) }
-    ensures { says result out.new found.new ≡ put window_values (values out.old found.old) (answered w) }
+    ensures { values out.new found.new ≡ window_values w }
 {
     match w {
-        None => {
-            out[0] = 0.0;
-            out[1] = 0.0;
-            found[0] = 0;
-            0
-        }
-        Some(tw) => {
-            out[0] = tw.ready;
-            out[1] = tw.due;
-            found[0] = 1;
-            0
-        }
+        Some(tw) => out.copy_from_slice(&[tw.ready, tw.due]),
+        None => out.fill(0.0),
     }
+    found[0] = u64::from(w.is_some());
 }
 
 // What a call that changes a plan did: routes left, steps, draws.
@@ -71,8 +58,7 @@ pub fn put_reply(counts: &mut [u64], a: Result<Reduction, Refusal>) -> u8
 {
     match a {
         Ok(done) => {
-            let counted = done.counts;
-            put_numbers(counts, done.routes as u64, counted.steps, counted.draws);
+            counts.copy_from_slice(&[done.routes as u64, done.counts.steps, done.counts.draws]);
             0
         }
         Err(refusal) => refusal.number(),

@@ -24,71 +24,62 @@ impl Fault {
     }
 }
 
-// A fault where a slice for the answer has not its length, or `given` is over 7.
-#[tactic(auto, unfolding(crate::specs::Misfit::misfit))]
-fn misfit(
-    floats: usize,
-    asked: usize,
-    numbers: usize,
-    wanted: usize,
-    given: u8,
-) -> Result<(), Fault>
-    ensures { code_of result ≡ misfit floats asked numbers wanted given }
-{
-    if floats != asked || numbers != wanted {
-        return Err(Fault::Length);
+// How many cells an answer takes in each of the slices that are lent for it.
+#[derive(Clone, Copy, Debug, PartialEq, Eq)]
+pub struct Shape {
+    // Floats; of a sheet, the bytes of its text.
+    pub floats: usize,
+    pub numbers: usize,
+}
+
+impl Shape {
+    // Yes or no.
+    pub const CHECKED: Shape = Shape {
+        floats: 0,
+        numbers: 1,
+    };
+    // A number.
+    pub const NUMBER: Shape = Shape {
+        floats: 1,
+        numbers: 0,
+    };
+    // An evaluation.
+    pub const EVALUATED: Shape = Shape {
+        floats: 5,
+        numbers: 3,
+    };
+    // A window. It has no `given`.
+    pub const WINDOW: Shape = Shape {
+        floats: 2,
+        numbers: 1,
+    };
+    // What a call that changes a plan did.
+    pub const REPLY: Shape = Shape {
+        floats: 0,
+        numbers: 3,
+    };
+    // A list of calls, whose slices are tested with its words.
+    pub const LIST: Shape = Shape {
+        floats: 0,
+        numbers: 0,
+    };
+    // A sheet. It has no `given`.
+    pub const SHEET: Shape = Shape {
+        floats: 6000,
+        numbers: 1,
+    };
+
+    // A fault where a slice for the answer has not its length, or `given` is over 7. An answer without a `given` hands over 0.
+    #[tactic(auto, unfolding(crate::specs::Misfit::misfit))]
+    pub fn misfit(self, floats: usize, numbers: usize, given: u8) -> Result<(), Fault>
+        ensures { code_of result ≡ misfit floats self.floats numbers self.numbers given }
+    {
+        if floats != self.floats || numbers != self.numbers {
+            return Err(Fault::Length);
+        }
+        if given > 7 {
+            return Err(Fault::Given);
+        }
+        Ok(())
     }
-    if given > 7 {
-        return Err(Fault::Given);
-    }
-    Ok(())
-}
-
-// Yes or no: one number.
-pub fn checked_misfit(numbers: usize, given: u8) -> Result<(), Fault>
-    ensures { code_of result ≡ misfit 0 0 numbers 1 given }
-{
-    misfit(0, 0, numbers, 1, given)
-}
-
-// A number: one float.
-pub fn number_misfit(floats: usize, given: u8) -> Result<(), Fault>
-    ensures { code_of result ≡ misfit floats 1 0 0 given }
-{
-    misfit(floats, 1, 0, 0, given)
-}
-
-// An evaluation: five floats and three numbers.
-pub fn evaluated_misfit(floats: usize, numbers: usize, given: u8) -> Result<(), Fault>
-    ensures { code_of result ≡ misfit floats 5 numbers 3 given }
-{
-    misfit(floats, 5, numbers, 3, given)
-}
-
-// A window: two floats and one number. It has no `given`.
-pub fn window_misfit(floats: usize, numbers: usize) -> Result<(), Fault>
-    ensures { code_of result ≡ misfit floats 2 numbers 1 0 }
-{
-    misfit(floats, 2, numbers, 1, 0)
-}
-
-// What a call that changes a plan did: three numbers.
-pub fn reply_misfit(numbers: usize, given: u8) -> Result<(), Fault>
-    ensures { code_of result ≡ misfit 0 0 numbers 3 given }
-{
-    misfit(0, 0, numbers, 3, given)
-}
-
-// A list of calls, whose slices are tested with its words.
-pub fn list_misfit(given: u8) -> Result<(), Fault>
-    ensures { code_of result ≡ misfit 0 0 0 0 given }
-{
-    misfit(0, 0, 0, 0, given)
-}
-
-// A sheet: 6,000 bytes for its text and one number. It has no `given`.
-pub fn sheet_misfit(bytes: usize, numbers: usize) -> Result<(), Fault>
-    ensures { code_of result ≡ misfit bytes 6000 numbers 1 0 }
-{
-    misfit(bytes, 6000, numbers, 1, 0)
 }

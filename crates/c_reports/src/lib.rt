@@ -4,10 +4,11 @@
 ghost use Rattle.std.specs.Prelude.{◌≡◌, length};
 ghost use Rattle.c_reports.specs.Reports.{ran_code, printed_code, bytes_written};
 
+use c_values::Fault;
 use call_lists::Malformed;
 
 // Of the crates below, passed on to those above.
-pub use call_lists::{eliminate, minimise, run_calls};
+pub use call_lists::{Allowance, eliminate, minimise, run_calls};
 pub use sheet_planner::plan_sheet;
 
 // The number for a list of calls.
@@ -27,10 +28,10 @@ pub fn put_printed(written: &mut [u64], p: Option<usize>) -> u8
     ensures number { written.new ≡ bytes_written p written.old }
 {
     match p {
-        None => 100,
         Some(n) => {
             written[0] = n as u64;
             0
         }
+        None => Fault::Length.code(),
     }
 }

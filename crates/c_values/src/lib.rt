@@ -3,7 +3,4 @@
 #![tactic(auto)]
 
 // Of the crates below, passed on to those above.
-pub use c_fits::{
-    checked_misfit, evaluated_misfit, list_misfit, number_misfit, reply_misfit, sheet_misfit,
-    window_misfit,
-};
+pub use c_fits::{Fault, Shape};

@@ -1,5 +1,6 @@
 -- The vehicle as C hands it over: numbers, and a number `given` whose bits say which of them there are. Assumes nothing.
-use Rattle.std.specs.Prelude.{ℕ, ◌/◌, ◌%◌, Bool, cond, eqb, ℤ, Float, Option, Some, None}
+use Rattle.std.specs.Prelude.{ℕ, ◌/◌, ◌%◌, Bool, eqb, ℤ, Float, Option}
+use Rattle.std.specs.Bool.{then_some}
 use Rattle.models.specs.declared.vehicle.Vehicle.{Vehicle}
 use Rattle.models.specs.declared.vehicle.VehicleBreak.{VehicleBreak}
 
@@ -17,11 +18,11 @@ has_rest given = eqb (given / 4 % 2) 1
 
 -- "A limit is either none or a number"
 abbrev pub limit_of : Bool → Float → Option Float
-limit_of there most = cond there (Some most) None
+limit_of there most = then_some there most
 
 -- "so is a break, with earliest, latest, duration"
 abbrev pub rest_of : Bool → Float → Float → Float → Option VehicleBreak
-rest_of there earliest latest duration = cond there (Some (record { earliest = earliest; latest = latest; duration = duration })) None
+rest_of there earliest latest duration = then_some there (record { earliest = earliest; latest = latest; duration = duration })
 
 -- the vehicle of the numbers; a value whose bit is clear is not read
 unfoldable pub vehicle_of : ℤ → ℕ → Float → Float → ℕ → Float → Float → Float → Float → Float → Vehicle

@@ -1,7 +1,7 @@
 // The record of a list of calls: the answer of each in four words, and both slices after it. What is recorded is in call_words, specs/Words.antt.
 #![tactic(auto)]
 
-ghost use Rattle.std.specs.Prelude.{◌≡◌, [], ◌∷◌, ◌++◌, ◌+◌, ◌*◌, ◌≤◌, length};
+ghost use Rattle.std.specs.Prelude.{◌≡◌, ◌++◌, ◌+◌, ◌*◌, ◌≤◌, length};
 ghost use Rattle.call_words.specs.planner.Told.{told};
 ghost use Rattle.call_words.specs.Words.{answer_words, put};
 
@@ -10,36 +10,16 @@ use call_words::{Reduction, Refusal, copy_part};
 // Of the crates below, passed on to those above.
 pub use call_words::{Problem, Vehicle, well_formed, words_at};
 
-// Four words from `at` on.
-fn put_words(answers: &mut [u64], at: usize, refusal: u64, routes: u64, steps: u64, draws: u64)
-    requires { at + 4 ≤ length answers.old }
-    ensures { answers.new ≡ put answers.old at (refusal ∷ routes ∷ steps ∷ draws ∷ []) }
-{
-    answers[at] = refusal;
-    answers[at + 1] = routes;
-    answers[at + 2] = steps;
-    answers[at + 3] = draws;
-}
-
 // The answer of call i, in four words.
 pub fn record_answer(answers: &mut [u64], i: usize, a: Result<Reduction, Refusal>)
     requires { i * 4 + 4 ≤ length answers.old }
     ensures { answers.new ≡ put answers.old (i * 4) (answer_words (told a)) }
 {
-    match a {
-        Ok(done) => {
-            let counts = done.counts;
-            put_words(
-                answers,
-                i * 4,
-                0,
-                done.routes as u64,
-                counts.steps,
-                counts.draws,
-            )
-        }
-        Err(refusal) => put_words(answers, i * 4, refusal.number() as u64, 0, 0, 0),
-    }
+    let words = match a {
+        Ok(done) => [0, done.routes as u64, done.counts.steps, done.counts.draws],
+        Err(refusal) => [u64::from(refusal.number()), 0, 0, 0],
+    };
+    answers[i * 4..i * 4 + 4].copy_from_slice(&words);
 }
 
 // Both slices after call i.

@@ -10,7 +10,7 @@ ghost use Rattle.call_lists.specs.Lists.{AllRun, Leaves};
 use recorded_call::{Problem, Vehicle, run_next, well_formed};
 
 // Of the crates below, passed on to those above.
-pub use recorded_call::{eliminate, minimise};
+pub use recorded_call::{Allowance, eliminate, minimise};
 
 // The words of a list are malformed.
 #[derive(Clone, Copy, Debug, PartialEq, Eq)]

@@ -1,5 +1,5 @@
 -- Lists of calls in code: what the lent words ask for, which of them are malformed, and what the recorded words hold. Assumes nothing.
-use Rattle.std.specs.Prelude.{ℕ, zero, suc, ◌+◌, ◌*◌, ◌-◌, ◌/◌, Bool, true, cond, ◌&&◌, List, [], ◌∷◌, ◌++◌, length, take, drop, get_or, eqb, leb, Float}
+use Rattle.std.specs.Prelude.{ℕ, zero, suc, ◌+◌, ◌*◌, ◌-◌, ◌/◌, Bool, true, cond, ◌&&◌, List, [], ◌∷◌, ◌++◌, length, take, drop, get_or, eqb, leb, Float, Option, Some, None}
 use Rattle.planner.specs.plan.Plan.{Slices}
 use Rattle.planner.specs.local_search.declared.rounds.Reduction.{Reduction}
 use Rattle.planner.specs.entry.Table.{Work}
@@ -7,8 +7,14 @@ use Rattle.planner.specs.Calls.{Answer, refused, answered, Reply}
 use Rattle.planner.specs.Told.{slices_of, work_of}
 use Rattle.planner.specs.Run.{Call, minimise, eliminate}
 use Rattle.call_words.specs.declared.Words.{Words}
+use Rattle.call_words.specs.declared.Kind.{Kind}
+use Rattle.call_words.specs.declared.Kind.TheVariants.{Minimise, Eliminate}
 
 -- ---- what the words ask for
+
+-- 0 is minimise, 1 is eliminate
+abbrev pub asks : Words → Option Kind
+asks w = cond (eqb w.kind 0) (Some Minimise) (cond (eqb w.kind 1) (Some Eliminate) None)
 
 -- six words: kind, M, K, tape words, u16 and f64 work cells
 abbrev pub words_first : List ℕ → Words

@@ -4,10 +4,17 @@
 
 ghost use Rattle.std.specs.Prelude.{◌≡◌, ◌+◌, ◌*◌, ◌≤◌, length, drop, eqb};
 ghost use Rattle.planner.specs.Told.{work_of};
-ghost use Rattle.call_words.specs.Words.{buffers, words_first, words_of, kind_passes, call_passes, calls_pass, well_formed};
+ghost use Rattle.call_words.specs.Words.{buffers, words_first, words_of, asks, kind_passes, call_passes, calls_pass, well_formed};
 
 // Of the crates below, passed on to those above.
 pub use planner::{Problem, Reduction, Refusal, Vehicle, copy_part};
+
+// What a call of a list asks for.
+#[derive(Clone, Copy, PartialEq, Eq)]
+pub enum Kind {
+    Minimise,
+    Eliminate,
+}
 
 // The six words of a call: its kind (0 minimise, 1 eliminate), M, K, how many words its tape has, and how many u16 and f64 work cells it is lent.
 #[derive(Clone, Copy)]
@@ -18,6 +25,19 @@ pub struct Words {
     pub tape: usize,
     pub small: usize,
     pub wide: usize,
+}
+
+impl Words {
+    // What the words ask for, or nothing where no call has their kind.
+    pub fn asks(self) -> Option<Kind>
+        ensures { result ≡ asks self }
+    {
+        match self.kind {
+            0 => Some(Kind::Minimise),
+            1 => Some(Kind::Eliminate),
+            _ => None,
+        }
+    }
 }
 
 // The words of call i.
@@ -41,7 +61,11 @@ pub fn words_at(calls: &[u64], i: usize) -> Words
 fn kind_passes(w: Words) -> bool
     ensures { result ≡ kind_passes w }
 {
-    w.kind == 0 || w.kind == 1 && w.limit == 0 && w.clock == 0 && w.tape == 0
+    match w.asks() {
+        Some(Kind::Minimise) => true,
+        Some(Kind::Eliminate) => w.limit == 0 && w.clock == 0 && w.tape == 0,
+        None => false,
+    }
 }
 
 // Whether the words are a call's, and it is lent no more work cells than there are.

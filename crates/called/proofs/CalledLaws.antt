@@ -1,12 +1,15 @@
--- The parts that a call is lent have the numbers that the words say. Assumes nothing.
+-- What a call of a list asks for, and that the parts it is lent have the numbers that the words say. Assumes nothing.
 use Prim.Native.Nat.{ℕ, ◌+◌, ◌-◌}
-use mathlib.Core.Path.{◌≡◌, ◌∙◌}
+use mathlib.Core.Path.{◌≡◌, refl, ◌∙◌}
+use mathlib.Core.Bool.{Bool, true, false, cond}
+use Rattle.std.specs.Prelude.{Option, Some, None}
 use mathlib.Core.List.{List}
 use native.Mathlib.Omega.{arith}
 use lib.ListN.{length, take, drop}
 use lib.Seq.{length-take-le}
 use lib.Ieee.{Float}
-use borrow.Author.Tests.{eq-eqb, ne_eqb}
+use lib.Dec.{eqb}
+use borrow.Author.Tests.{eq-eqb, eqb-true, ne_eqb}
 use Rattle.minimise_call.specs.models.Problem.{Problem}
 use Rattle.minimise_call.specs.plan.Plan.{Slices}
 use Rattle.minimise_call.specs.ejection_pool.Running.{allowance}
@@ -14,8 +17,32 @@ use Rattle.minimise_call.specs.planner.Calls.{Reply, public_minimise, public_eli
 use Rattle.minimise_call.specs.planner.Told.{work_of}
 use Rattle.minimise_call.specs.planner.Run.{call}
 use Rattle.call_words.specs.declared.Words.{Words}
-use Rattle.call_words.specs.Words.{call_of}
+use Rattle.call_words.specs.declared.Kind.{Kind}
+use Rattle.call_words.specs.declared.Kind.TheVariants.{Minimise, Eliminate}
+use Rattle.call_words.specs.Words.{asks, call_of}
 use Rattle.called.specs.Lent.{Lent}
+
+-- ---- the kind where the words ask for a call
+
+module _ (w : Words) where
+  asks_first : w.kind ≡ 0 → asks w ≡ Some Minimise
+  asks_first z = rw (eq-eqb w.kind 0 z)
+
+  pub asks_minimise : (k : Kind) → Some k ≡ asks w → k ≡ Minimise → w.kind ≡ 0
+  asks_minimise k e m = go (eqb w.kind 0) (eqb w.kind 1) refl e
+    where
+      go : (t u : Bool) → eqb w.kind 0 ≡ t → Some k ≡ cond t (Some Minimise) (cond u (Some Eliminate) None) → w.kind ≡ 0
+      go true u f a = eqb-true w.kind 0 f
+      go false true f a = cc
+      go false false f a = cc
+
+  pub asks_eliminate : (k : Kind) → Some k ≡ asks w → k ≡ Eliminate → w.kind ≡ 0 → ⊥
+  asks_eliminate k e m z = let x = asks_first z in cc
+
+  pub asks_nothing : (o : Option Kind) → o ≡ asks w → o ≡ None → w.kind ≡ 0 → ⊥
+  asks_nothing o e m z = let x = asks_first z in cc
+
+-- ---- the parts that a call is lent have the numbers that the words say
 
 module _ (p : Problem) (s : Slices) (w : Words) (from : ℕ) (tapes work : List ℕ) (cells : List Float) (h : Lent w from (length tapes) (length work) (length cells)) (r : Reply) where
   small_is : length (take w.small work) ≡ w.small

@@ -1,3 +1,3 @@
 -- What the function's proof leans on.
--- the parts that a call is lent
+-- what a call asks for, and the parts that it is lent
 pub mod CalledLaws

@@ -9,12 +9,12 @@ ghost use Rattle.minimise_call.specs.planner.Told.{reply_of, slices_of};
 ghost use Rattle.call_words.specs.Words.{call_of};
 ghost use Rattle.called.specs.Lent.{Lent};
 
-use call_words::Words;
+use call_words::{Kind, Words};
 use minimise_call::{Problem, Reduction, Refusal, Vehicle};
 
 // Of the crates below, passed on to those above.
 pub use eliminate_call::eliminate;
-pub use minimise_call::minimise;
+pub use minimise_call::{Allowance, minimise};
 
 // The call that the words are, with its tape beginning at `from`.
 pub fn run_call(
@@ -33,18 +33,23 @@ pub fn run_call(
 {
     let small = w.small;
     let wide = w.wide;
-    if w.kind == 0 {
-        let end = from + w.tape;
-        return minimise(
-            lengths,
-            stops,
-            &mut work[..small],
-            &mut cells[..wide],
-            &tapes[from..end],
-            w.limit,
-            w.clock,
-            problem,
-        );
+    match w.asks() {
+        Some(Kind::Minimise) => {
+            let end = from + w.tape;
+            let allowance = Allowance {
+                tape: &tapes[from..end],
+                limit: w.limit,
+                clock: w.clock,
+            };
+            minimise(
+                lengths,
+                stops,
+                &mut work[..small],
+                &mut cells[..wide],
+                allowance,
+                problem,
+            )
+        }
+        _ => eliminate(lengths, stops, &mut work[..small], &cells[..wide], problem),
     }
-    eliminate(lengths, stops, &mut work[..small], &cells[..wide], problem)
 }

@@ -8,7 +8,7 @@ ghost use Rattle.worth_questions.specs.planner.Told.{slices_of, work_of};
 ghost use Rattle.c_vehicle.specs.VehicleOf.{vehicle_of};
 ghost use Rattle.c_answers.specs.c_values.Said.{replies, plan_call, FreeIfDone};
 
-use c_answers::{put_reply, reply_misfit};
+use c_answers::{Shape, put_reply};
 use c_vehicle::vehicle_of;
 use worth_questions::{Customers, DistanceMatrix, Problem};
 
@@ -50,7 +50,7 @@ pub extern "C" fn cobrwydd_minimise(
     ensures work { FreeIfDone result work.old work.new }
     ensures cells { FreeIfDone result cells.old cells.new }
 {
-    if let Err(fault) = reply_misfit(counts.len(), given) {
+    if let Err(fault) = Shape::REPLY.misfit(0, counts.len(), given) {
         return fault.code();
     }
     let vehicle = vehicle_of(
@@ -83,7 +83,8 @@ pub extern "C" fn cobrwydd_minimise(
         roads: &roads,
         vehicle,
     };
-    let reply = c_reports::minimise(lengths, stops, work, cells, tape, limit, clock, &problem);
+    let allowance = c_reports::Allowance { tape, limit, clock };
+    let reply = c_reports::minimise(lengths, stops, work, cells, allowance, &problem);
     put_reply(counts, reply)
 }
 
@@ -121,7 +122,7 @@ pub extern "C" fn cobrwydd_eliminate(
         (slices_of lengths.old stops.old) (work_of (length work.old) (length cells.now))) }
     ensures work { FreeIfDone result work.old work.new }
 {
-    if let Err(fault) = reply_misfit(counts.len(), given) {
+    if let Err(fault) = Shape::REPLY.misfit(0, counts.len(), given) {
         return fault.code();
     }
     let vehicle = vehicle_of(

@@ -5,7 +5,7 @@ ghost use Rattle.c_reports.specs.call_words.Words.{buffers};
 ghost use Rattle.c_vehicle.specs.VehicleOf.{vehicle_of};
 ghost use Rattle.cobrwydd.specs.Lists.{RanList};
 
-use c_answers::list_misfit;
+use c_answers::Shape;
 use c_reports::ran_code;
 use c_vehicle::vehicle_of;
 use worth_questions::{Customers, DistanceMatrix, Problem};
@@ -49,7 +49,7 @@ pub extern "C" fn cobrwydd_run_calls(
         (buffers lengths.old stops.old work.old cells.old answers.old history.old)
         (buffers lengths.new stops.new work.new cells.new answers.new history.new) }
 {
-    if let Err(fault) = list_misfit(given) {
+    if let Err(fault) = Shape::LIST.misfit(0, 0, given) {
         return fault.code();
     }
     let vehicle = vehicle_of(

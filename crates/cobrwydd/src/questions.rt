@@ -7,10 +7,7 @@ ghost use Rattle.worth_questions.specs.planner.Calls.{answered, public_route_fea
 ghost use Rattle.c_vehicle.specs.VehicleOf.{vehicle_of};
 ghost use Rattle.c_answers.specs.c_values.Said.{values, says, question, checked_values, number_values, eval_values, window_values};
 
-use c_answers::{
-    checked_misfit, evaluated_misfit, number_misfit, put_checked, put_evaluated, put_number,
-    put_window, window_misfit,
-};
+use c_answers::{Shape, put_checked, put_evaluated, put_number, put_window};
 use c_vehicle::vehicle_of;
 use worth_questions::{Customers, DistanceMatrix, Problem, VehicleBreak};
 
@@ -43,7 +40,7 @@ pub extern "C" fn cobrwydd_route_feasible(
         (public_route_feasible (problem n demand.now service.now ready.now due.now penalty.now flags.now distances.now times.now
         (vehicle_of capacity depot fixed_cost cost_per_distance given max_distance max_duration earliest latest duration)) route.now) }
 {
-    if let Err(fault) = checked_misfit(found.len(), given) {
+    if let Err(fault) = Shape::CHECKED.misfit(0, found.len(), given) {
         return fault.code();
     }
     let vehicle = vehicle_of(
@@ -110,7 +107,7 @@ pub extern "C" fn cobrwydd_route_eval(
         (public_route_eval (problem n demand.now service.now ready.now due.now penalty.now flags.now distances.now times.now
         (vehicle_of capacity depot fixed_cost cost_per_distance given max_distance max_duration earliest latest duration)) route.now) }
 {
-    if let Err(fault) = evaluated_misfit(out.len(), found.len(), given) {
+    if let Err(fault) = Shape::EVALUATED.misfit(out.len(), found.len(), given) {
         return fault.code();
     }
     let vehicle = vehicle_of(
@@ -176,7 +173,7 @@ pub extern "C" fn cobrwydd_effective_cost(
         (public_effective_cost (problem n demand.now service.now ready.now due.now penalty.now flags.now distances.now times.now
         (vehicle_of capacity depot fixed_cost cost_per_distance given max_distance max_duration earliest latest duration)) route.now) }
 {
-    if let Err(fault) = number_misfit(out.len(), given) {
+    if let Err(fault) = Shape::NUMBER.misfit(out.len(), 0, given) {
         return fault.code();
     }
     let vehicle = vehicle_of(
@@ -247,7 +244,7 @@ pub extern "C" fn cobrwydd_schedule(
         (vehicle_of capacity depot fixed_cost cost_per_distance given max_distance max_duration earliest latest duration))
         (vehicle_break_new break_earliest break_latest break_duration) route.now) }
 {
-    if let Err(fault) = evaluated_misfit(out.len(), found.len(), given) {
+    if let Err(fault) = Shape::EVALUATED.misfit(out.len(), found.len(), given) {
         return fault.code();
     }
     let vehicle = vehicle_of(
@@ -314,7 +311,7 @@ pub extern "C" fn cobrwydd_route_distance(
         (public_route_distance (problem n demand.now service.now ready.now due.now penalty.now flags.now distances.now times.now
         (vehicle_of capacity depot fixed_cost cost_per_distance given max_distance max_duration earliest latest duration)) route.now) }
 {
-    if let Err(fault) = number_misfit(out.len(), given) {
+    if let Err(fault) = Shape::NUMBER.misfit(out.len(), 0, given) {
         return fault.code();
     }
     let vehicle = vehicle_of(
@@ -379,7 +376,7 @@ pub extern "C" fn cobrwydd_lateness_bound(
         (public_lateness_bound (problem n demand.now service.now ready.now due.now penalty.now flags.now distances.now times.now
         (vehicle_of capacity depot fixed_cost cost_per_distance given max_distance max_duration earliest latest duration))) }
 {
-    if let Err(fault) = number_misfit(out.len(), given) {
+    if let Err(fault) = Shape::NUMBER.misfit(out.len(), 0, given) {
         return fault.code();
     }
     let vehicle = vehicle_of(
@@ -444,7 +441,7 @@ pub extern "C" fn cobrwydd_gain_floor(
         (public_gain_floor (problem n demand.now service.now ready.now due.now penalty.now flags.now distances.now times.now
         (vehicle_of capacity depot fixed_cost cost_per_distance given max_distance max_duration earliest latest duration))) }
 {
-    if let Err(fault) = number_misfit(out.len(), given) {
+    if let Err(fault) = Shape::NUMBER.misfit(out.len(), 0, given) {
         return fault.code();
     }
     let vehicle = vehicle_of(
@@ -491,9 +488,10 @@ pub extern "C" fn cobrwydd_time_window_new(
 ) -> u8
     ensures { says result out.new found.new ≡ question window_values 2 1 0 (values out.old found.old) (answered (public_time_window_new ready due)) }
 {
-    if let Err(fault) = window_misfit(out.len(), found.len()) {
+    if let Err(fault) = Shape::WINDOW.misfit(out.len(), found.len(), 0) {
         return fault.code();
     }
     let window = problem_questions::time_window_new(ready, due);
-    put_window(out, found, window)
+    put_window(out, found, window);
+    0
 }

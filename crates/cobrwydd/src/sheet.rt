@@ -3,7 +3,7 @@ ghost use Rattle.std.specs.Prelude.{◌≡◌};
 ghost use Rattle.c_reports.specs.sheet_answers.Printed.{printed};
 ghost use Rattle.cobrwydd.specs.Sheets.{prints, sheet_call};
 
-use c_answers::sheet_misfit;
+use c_answers::Shape;
 use c_reports::{plan_sheet, put_printed};
 
 // What a text prints, its listing or the line of its refusal, in `out`, and in written[0] how many bytes that are.
@@ -11,7 +11,7 @@ use c_reports::{plan_sheet, put_printed};
 pub extern "C" fn cobrwydd_plan_sheet(out: &mut [u8], written: &mut [u64], text: &[u8]) -> u8
     ensures { prints result out.new written.new ≡ sheet_call out.old written.old (printed text.now) }
 {
-    if let Err(fault) = sheet_misfit(out.len(), written.len()) {
+    if let Err(fault) = Shape::SHEET.misfit(out.len(), written.len(), 0) {
         return fault.code();
     }
     let p = plan_sheet(out, text);

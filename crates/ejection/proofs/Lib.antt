@@ -1,3 +1,3 @@
 -- What the functions' proofs lean on.
--- ranks, failures, the kept part
+-- the kept part
 pub mod EjectLaws

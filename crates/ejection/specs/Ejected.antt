@@ -1,5 +1,5 @@
 -- What the ejection finds lies in the plan, the route that it makes is feasible, and no stop is lost. Assumes nothing.
-use Prim.Native.Nat.{ℕ, zero, suc, ◌+◌, ◌-◌, ◌≤◌, ◌<◌}
+use Prim.Native.Nat.{ℕ, suc, ◌+◌, ◌-◌, ◌≤◌, ◌<◌}
 use Rattle.std.specs.Prelude.{◌≡◌, refl, Bool, true, false, cond, List, [], ◌∷◌, ◌++◌, length, get_or, take, drop, eqb}
 use Rattle.std.proofs.Common.{ap, ◌∙◌, le_refl, eqb-true, drop-cons, drop-drop, take-take, length-take-le}
 use Rattle.std.specs.Prelude.{Option, None, Some}
@@ -7,9 +7,9 @@ use native.Mathlib.Omega.{arith}
 use Rattle.std.proofs.lemmas.Bool.{eqb-false}
 use Rattle.std.proofs.lemmas.List.{take-append-le, drop-append-le}
 use Rattle.insertion.specs.laws.Lists.{drop_take}
-use Rattle.insertion.specs.laws.Edits.{insert_at, erase}
+use Rattle.insertion.specs.laws.Edits.{erase}
 use Rattle.insertion.specs.laws.Counts.{one_if, count, count_append, count_parts, count_insert_at}
-use Rattle.insertion.specs.laws.Loops.{loop, cond_rule, loop_rule}
+use Rattle.insertion.specs.laws.Loops.{cond_rule, loop_rule}
 use Rattle.insertion.specs.models.Problem.{Problem, depot}
 use Rattle.insertion.specs.plan.Plan.{Plan, route}
 use Rattle.insertion.specs.local_search.Options.{Each, each_or_else}

@@ -8,9 +8,9 @@ ghost use Rattle.ejection.specs.Asked.{Counted};
 
 // Of the crates below, passed on to those above.
 pub use insertion::{
-    Counts, DistanceMatrix, Fleet, Instance, LocalSearchNext, Pick, Reduction, Vehicle, checked,
-    constrained, copy_part, feasible, has_room, insertion_cost, may_pass, next_pick, offset,
-    prepare, put_in, rounds, take_out, within_capacity,
+    Counts, Demand, DistanceMatrix, Fleet, Instance, LocalSearchNext, Pick, Reduction, Times,
+    Vehicle, checked, constrained, copy_part, feasible, has_room, insertion_cost, may_pass,
+    next_pick, rounds, routes, within_capacity,
 };
 
 // Who leaves a route and where the popped stop goes: the sum of their failures, what the insertion costs, the route, the two places in it
@@ -58,15 +58,20 @@ fn between(i: usize, j: usize) -> usize
 
 // The failures of the stop at i.
 fn failures_at(failures: &[u32], route: &[u16], i: usize) -> u32
-    requires { Counted (length failures.now) failures.now × Stops (length failures.now) route.now × (i < length route.now) }
+    requires counted { Counted (length failures.now) failures.now }
+    requires stops { Stops (length failures.now) route.now }
+    requires there { i < length route.now }
     ensures { result ≡ failures_at failures.now route.now i }
 {
     failures[route[i] as usize]
 }
 
 // The sum of the failures of the stops at i and j, once where they are the same.
+#[tactic(auto, unfolding(crate::specs::Eject::failure_sum))]
 pub fn failure_sum(failures: &[u32], route: &[u16], i: usize, j: usize) -> u32
-    requires { Counted (length failures.now) failures.now × Stops (length failures.now) route.now × (i ≤ j) × (j < length route.now) }
+    requires counted { Counted (length failures.now) failures.now }
+    requires stops { Stops (length failures.now) route.now }
+    requires places { (i ≤ j) × (j < length route.now) }
     ensures { result ≡ failure_sum failures.now route.now i j }
 {
     let a = failures_at(failures, route, i);
@@ -79,8 +84,10 @@ pub fn failure_sum(failures: &[u32], route: &[u16], i: usize, j: usize) -> u32
 
 // The route without the stops at i and j goes to the first work cells. Returns how many they are.
 pub fn keep(work: &mut [u16], route: &[u16], i: usize, j: usize) -> usize
-    requires { (i ≤ j) × (j < length route.now) × (length route.now ≤ length work.old) }
-    ensures { (take result work.new ≡ kept i j route.now) × (result ≡ length (kept i j route.now)) }
+    requires places { (i ≤ j) × (j < length route.now) }
+    requires room { length route.now ≤ length work.old }
+    ensures kept { take result work.new ≡ kept i j route.now }
+    ensures count { result ≡ length (kept i j route.now) }
 {
     let m = between(i, j);
     let rest = route.len() - (j + 1);

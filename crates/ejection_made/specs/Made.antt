@@ -1,14 +1,17 @@
 -- The ejection made on the plan and on the pool: two edits of the plan for one stop, three for two; and the pool in its cells. Assumes nothing.
-use Rattle.std.specs.Prelude.{ℕ, zero, suc, ◌+◌, ◌-◌, ◌≤◌, ◌<◌, ◌≡◌, refl, get_or, set, eqb}
-use Rattle.std.proofs.Common.{sym, ap, ◌∙◌, not-suc-le-zero, add-one, arith, eq-eqb, ne_eqb, get_or-set_other, drop-cons}
-use mathlib.Core.List.{List, [], ◌∷◌, ◌++◌, reverse, reverse_aux}
+use Rattle.std.specs.Prelude.{ℕ, zero, suc, ◌+◌, ◌-◌, ◌≤◌, ◌<◌, ◌≡◌, refl, get_or, set}
+use Rattle.std.proofs.Common.{◌∙◌, not-suc-le-zero, add-one, arith, eq-eqb, ne_eqb, get_or-set_other}
+use mathlib.Core.List.{List, [], ◌∷◌, ◌++◌, reverse}
 use Rattle.std.proofs.Math.ListN.{length, length-set}
 use Rattle.std.proofs.Math.Seq.{get_or-set_same, set-set}
-use Rattle.ejection.specs.laws.Edits.{insert_at, erase}
-use Rattle.ejection.specs.plan.Plan.{Plan, route, split, total, put_in, take_out}
+use Rattle.ejection.specs.laws.Edits.{erase}
+use Rattle.ejection.specs.plan.Plan.{Plan, route, total, put_in, take_out}
+use Rattle.ejection.specs.plan.Given.{plan_of, Keeps}
+use Rattle.ejection.specs.plan.declared.routes.Routes.{Routes}
 use Rattle.ejection.specs.declared.Ejection.{Ejection}
-use Rattle.ejection.specs.Eject.{kept, ejected, into, make_room, gone}
+use Rattle.ejection.specs.Eject.{ejected, make_room, gone}
 use Rattle.ejection.specs.Ejected.{Inside, kept_one, kept_two}
+use Rattle.ejection_made.specs.declared.pool.Pool.{Pool}
 
 -- ---- the plan
 
@@ -44,6 +47,32 @@ unfoldable pub stack : List ℕ → ℕ → List ℕ
 stack cells zero = []
 stack cells (suc m) = get_or cells m 0 ∷ stack cells m
 
+-- the stops that wait, the one on top first
+abbrev pub pooled : Pool → List ℕ
+pooled p = stack p.cells.now p.count
+
+-- The cells are still the same ones.
+pub record SameCells (old new : Pool) : Type 0 where
+  pub same : new.cells.ghost_name ≡ old.cells.ghost_name
+  pub size : length new.cells.now ≡ length old.cells.now
+
+pub keeps_on : {a b c : Routes} → Keeps a b → Keeps b c → Keeps a c
+keeps_on f g = record {
+  same_lengths = g.same_lengths ∙ f.same_lengths;
+  same_stops = g.same_stops ∙ f.same_stops;
+  count = g.count ∙ f.count;
+  room = g.room ∙ f.room;
+}
+
+pub same_on : {a b c : Pool} → SameCells a b → SameCells b c → SameCells a c
+same_on f g = record { same = g.same ∙ f.same; size = g.size ∙ f.size }
+
+-- In the same cells c lies on what waits in `under`, and nothing on c.
+pub record OnTop (under : Pool) (c : ℕ) (over : Pool) : Type 0 where
+  pub stops : pooled over ≡ c ∷ pooled under
+  pub count : over.count ≡ under.count + 1
+  pub kept : SameCells under over
+
 -- a cell above the pool is none of it
 pub stack_above : (cells : List ℕ) (m i x : ℕ) → m ≤ i → stack (set cells i x) m ≡ stack cells m
 unfolding stack
@@ -77,8 +106,10 @@ gone_two routes e s =
 
 -- ---- both
 
--- c has gone into routes of some stops, by an ejection: what the plan and the pool of m cells over `rest` are then. n is the number of all stops.
-pub record Made (routes : Plan) (n : ℕ) (rest : List ℕ) (c : ℕ) (e : Ejection) (lengths stops pool : List ℕ) (m : ℕ) : Type 0 where
-  pub plan : split lengths stops ≡ make_room routes c e
-  pub sum : total lengths + m ≡ n
-  pub top : stack pool m ≡ reverse (gone routes e) ++ rest
+-- c has gone into the routes by an ejection: what stands in the same slices then, plan and pool together one stop more
+pub record Made (old : Routes) (before : Pool) (c : ℕ) (e : Ejection) (new : Routes) (after : Pool) : Type 0 where
+  pub plan : plan_of new ≡ make_room (plan_of old) c e
+  pub sum : total new.lengths.now + after.count ≡ total old.lengths.now + before.count + 1
+  pub top : pooled after ≡ reverse (gone (plan_of old) e) ++ pooled before
+  pub kept : Keeps old new
+  pub cells : SameCells before after

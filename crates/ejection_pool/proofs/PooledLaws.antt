@@ -1,21 +1,18 @@
 -- A turn of the pool keeps what the code asks of its state: plan and pool together stay as they are, failures rise by one a step and draws by
 -- 500. Assumes nothing.
-use Rattle.std.specs.Prelude.{ℕ, zero, suc, ◌+◌, ◌*◌, ◌≤◌, ◌<◌, ◌≡◌, refl, Bool, true, false, length, get_or, set, eqb}
-use Rattle.std.proofs.Common.{sym, ap, ◌∙◌, le_refl, arith, eqb-true, length-set, get_or-set_same, get_or-set_other}
+use Rattle.std.specs.Prelude.{ℕ, zero, suc, ◌+◌, ◌≤◌, ◌≡◌, refl, length, get_or, set}
+use Rattle.std.proofs.Common.{sym, ap, ◌∙◌, arith, length-set}
 use Rattle.std.proofs.Math.Path.{subst}
 use mathlib.Core.List.{List, [], ◌∷◌, ◌++◌}
-use Rattle.std.proofs.lemmas.Bool.{eqb-false}
 use Rattle.std.proofs.Math.ListN.{length-append}
 use Rattle.ejection_made.specs.laws.All.{all_of}
-use Rattle.ejection_made.specs.laws.Counts.{count, count_append, same_length}
+use Rattle.ejection_made.specs.laws.Counts.{count_append, same_length}
 use Rattle.ejection_made.specs.models.Problem.{Problem}
-use Rattle.ejection_made.specs.plan.Plan.{Plan, flat, occurs}
-use Rattle.ejection_made.specs.local_search.declared.rounds.Counts.{Counts}
+use Rattle.ejection_made.specs.plan.Plan.{flat}
 use Rattle.ejection_made.specs.local_search.Planned.{Planned}
-use Rattle.ejection_made.specs.local_search.Rounds.{Tried}
 use Rattle.random_moves.specs.PerturbationMoveDraws.{perturb_draws}
 use Rattle.ejection_made.specs.ejection.Eject.{make_room}
-use Rattle.ejection_pool.specs.Pool.{Allowance, State, Turn, stop, more, turn}
+use Rattle.ejection_pool.specs.Pool.{Allowance, State, more, turn}
 use Rattle.ejection_pool.proofs.Turns.{Then, turn_rule}
 use Rattle.ejection_pool.proofs.Placing.{Placing, turn_placing}
 use Rattle.ejection_pool.specs.Pooled.{Pooled}
@@ -23,6 +20,7 @@ use Rattle.ejection_pool.specs.Pooled.{Pooled}
 pub pooled_planned : (p : Problem) (n left : ℕ) (s : State) → n ≤ 256 → Pooled p n left s → Planned p.roads.size s.routes
 pooled_planned p n left s f h = record { few = omega (arith, h.all); places = λ c i. omega (arith, h.places c i) }
 
+-- fewer steps to the limit ask less
 pub pooled_fewer : (p : Problem) (n left fewer : ℕ) (s : State) → fewer ≤ left → Pooled p n left s → Pooled p n fewer s
 pooled_fewer p n left fewer s f h =
     record { places = h.places; all = h.all; sized = h.sized; counted = λ k. omega (arith, h.counted k); drawn = omega (arith, h.drawn) }

@@ -4,7 +4,7 @@ use Rattle.std.specs.Prelude.{ℕ, ◌+◌, ◌*◌, ◌≤◌, ◌<◌, ◌≡�
 use Rattle.ejection_made.specs.laws.Counts.{count}
 use Rattle.ejection_made.specs.models.Problem.{Problem}
 use Rattle.ejection_made.specs.plan.Plan.{flat, occurs}
-use Rattle.ejection_pool.specs.Pool.{State, turn}
+use Rattle.ejection_pool.specs.Pool.{State}
 
 -- n stops in plan and pool together, with `left` steps to the limit
 pub record Pooled (p : Problem) (n left : ℕ) (s : State) : Type 0 where

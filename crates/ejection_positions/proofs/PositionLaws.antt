@@ -3,13 +3,10 @@ use Prim.Native.Nat.{ℕ, suc}
 use mathlib.Core.Path.{◌≡◌, refl, sym, ◌∙◌}
 use mathlib.Core.Bool.{Bool, true, false, not}
 use mathlib.Core.List.{List, []}
-use Rattle.std.proofs.Common.{Option, Some}
+use Rattle.std.proofs.Common.{Option}
 use lib.ListN.{length}
-use lib.IntN.{ℤ}
 use lib.Ieee.{Float}
-use borrow.Author.Rules.{rules}
 use Rattle.ejection.specs.laws.Loops.{loop, loop_same}
-use Rattle.ejection.specs.models.declared.vehicle.Vehicle.{Vehicle}
 use Rattle.ejection.specs.models.Problem.{DistanceMatrix, Problem, of_demand, depot, problem_of}
 use Rattle.ejection.specs.route_cost.Route.{insertion_cost}
 use Rattle.ejection.specs.route_load.Feasible.{has_room}
@@ -22,29 +19,10 @@ use Rattle.ejection_positions.specs.declared.Out.{Out}
 use Rattle.ejection.specs.Eject.{outranks, try_in_kept, try_kept, try_left}
 use Rattle.ejection_positions.specs.Pass.{none_outranks, none_outranks_stays, pass_in_kept, pass_in_kept_room, try_in_kept_untimed}
 
--- ---- one position: it does not outrank the best; c may not go in; it may
-
-module _ (p : Problem) (c n k i j : ℕ) (left : List ℕ) (t : Times) (pos : ℕ) (best : Option Ejection) (x : Float) (v : Bool)
-    (ex : x ≡ insertion_cost p.roads (depot p) left pos c) (ev : v ≡ outranks n x best) where
-  pub position_beaten : v ≡ false → best ≡ pass_in_kept p c n k i j left t pos best
-  unfolding pass_in_kept
-  position_beaten f = rw (← ex, ← ev, f)
-
-  module _ (h : v ≡ true) (w : Bool) (ew : w ≡ may_pass p left t pos c) where
-    pub position_refused : w ≡ false → best ≡ pass_in_kept p c n k i j left t pos best
-    unfolding pass_in_kept
-    position_refused f = rw (← ex, ← ev, h, ← ew, f)
-
-    pub position_taken : w ≡ true → Some (record { failed = n; cost = x; route = k; first = i; second = j; pos = pos }) ≡ pass_in_kept p c n k i j left t pos best
-    unfolding pass_in_kept
-    position_taken f = rw (← ex, ← ev, h, ← ew, f)
-
 -- what the code's test says of a position
 pub rank_told : (m : DistanceMatrix) (depot n c : ℕ) (left : List ℕ) (pos : ℕ) (best : Option Ejection) (x : Float) (v : Bool)
     → x ≡ insertion_cost m depot left pos c → v ≡ outranks n x best → not v ≡ not (outranks n (insertion_cost m depot left pos c) best)
 rank_told m depot n c left pos best x v ex ev = rw (← ex, ← ev)
-
-pub ruleset position_laws = (position_beaten, position_refused, position_taken)
 
 -- ---- a turn of the loop over positions
 

@@ -9,12 +9,12 @@ ghost use Rattle.ejection.specs.Eject.{try_left};
 ghost use Rattle.ejection_positions.specs.Pass.{none_outranks, pass_in_kept};
 ghost use Rattle.ejection.specs.evaluation.Given.{of_instance, of_fleet};
 
-use ejection::{DistanceMatrix, has_room, insertion_cost, may_pass, outranks, prepare};
+use ejection::{DistanceMatrix, has_room, insertion_cost, may_pass, outranks};
 
 // Of the crates below, passed on to those above.
 pub use ejection::{
-    Ejection, Fleet, Instance, Vehicle, checked, fails_more, failure_sum, feasible, keep,
-    within_capacity,
+    Demand, Ejection, Fleet, Instance, Times, Vehicle, checked, fails_more, failure_sum, feasible,
+    keep, routes, within_capacity,
 };
 
 // Who leaves: the sum of their failures, the route and their two places in it, the same one twice where one stop leaves.
@@ -27,21 +27,24 @@ pub struct Out {
 }
 
 // One position of what is kept, which has room for c: the better of what it gives and the best so far.
+#[tactic(auto, unfolding(crate::specs::Pass::pass_in_kept))]
 fn try_in_kept(
     left: &[u16],
-    cells: &[f64],
+    times: &Times,
     out: Out,
     pos: usize,
     c: usize,
     best: Option<Ejection>,
     fleet: &Fleet,
 ) -> Option<Ejection>
-    requires { (c < fleet.now.net.roads.size) × (pos ≤ length left.now) × Stops fleet.now.net.roads.size left.now × (512 ≤ length cells.now) }
-    ensures { result ≡ pass_in_kept (of_fleet fleet.now) c out.failed out.route out.first out.second left.now (held (length left.now) cells.now) pos
-        best }
+    requires there { c < fleet.now.net.roads.size }
+    requires within { pos ≤ length left.now }
+    requires stops { Stops fleet.now.net.roads.size left.now }
+    ensures { result ≡ pass_in_kept (of_fleet fleet.now) c out.failed out.route out.first out.second left.now
+        (held (length left.now) times.now.cells.now) pos best }
 {
     let cost = insertion_cost(left, pos, c, fleet.vehicle.depot_id, &fleet.net.roads);
-    if outranks(out.failed, cost, best) && may_pass(left, cells, pos, c, fleet) {
+    if outranks(out.failed, cost, best) && may_pass(left, times, pos, c, fleet) {
         Some(Ejection {
             failed: out.failed,
             cost: cost,
@@ -58,19 +61,20 @@ fn try_in_kept(
 // Every position of what is kept, which has room for c, its end too.
 fn try_positions(
     left: &[u16],
-    cells: &[f64],
+    times: &Times,
     out: Out,
     c: usize,
     best: Option<Ejection>,
     fleet: &Fleet,
 ) -> Option<Ejection>
-    requires { (c < fleet.now.net.roads.size) × Stops fleet.now.net.roads.size left.now × (512 ≤ length cells.now) }
+    requires there { c < fleet.now.net.roads.size }
+    requires stops { Stops fleet.now.net.roads.size left.now }
     ensures { result ≡ loop (suc (length left.now))
-        (pass_in_kept (of_fleet fleet.now) c out.failed out.route out.first out.second left.now (held (length left.now) cells.now)) best }
+        (pass_in_kept (of_fleet fleet.now) c out.failed out.route out.first out.second left.now (held (length left.now) times.now.cells.now)) best }
 {
     let mut found = best;
     for pos in 0..left.len() + 1 {
-        found = try_in_kept(left, cells, out, pos, c, found, fleet);
+        found = try_in_kept(left, times, out, pos, c, found, fleet);
     }
     found
 }
@@ -85,7 +89,9 @@ fn none_outranks(
     roads: &DistanceMatrix,
 ) -> bool
     requires n_bound { (roads.now.size ≤ 256) × (length roads.now.distances ≡ roads.now.size * roads.now.size) }
-    requires depot_lt_n { (depot < roads.now.size) × (c < roads.now.size) × Stops roads.now.size kept.now }
+    requires home { depot < roads.now.size }
+    requires there { c < roads.now.size }
+    requires stops { Stops roads.now.size kept.now }
     ensures { result ≡ none_outranks roads.now depot c failed kept.now best }
 {
     for pos in 0..kept.len() + 1 {
@@ -99,17 +105,18 @@ fn none_outranks(
 
 // What is kept: the load test once, the departures and latest arrivals once where a position may rank first, then the positions.
 pub fn try_left(
-    cells: &mut [f64],
+    times: &mut Times,
     left: &[u16],
     out: Out,
     c: usize,
     best: Option<Ejection>,
     given: &Instance,
 ) -> Option<Ejection>
-    requires { (c < given.now.fleet.net.roads.size) × Stops given.now.fleet.net.roads.size left.now × (512 ≤ length cells.old) }
+    requires there { c < given.now.fleet.net.roads.size }
+    requires stops { Stops given.now.fleet.net.roads.size left.now }
     ensures { result ≡ try_left (of_instance given.now) c out.failed out.route out.first out.second left.now best }
 {
-    if !has_room(left, c, given.demand, given.fleet.vehicle)
+    if !has_room(left, c, &given.demand, given.fleet.vehicle)
         || none_outranks(
             left,
             out.failed,
@@ -121,8 +128,8 @@ pub fn try_left(
     {
         return best;
     }
-    if prepare(cells, left, &given.fleet) {
-        try_positions(left, cells, out, c, best, &given.fleet)
+    if times.prepare(left, &given.fleet) {
+        try_positions(left, times, out, c, best, &given.fleet)
     } else {
         best
     }

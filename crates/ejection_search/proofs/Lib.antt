@@ -1,3 +1,3 @@
 -- What the functions' proofs lean on.
--- the routes, one stop or two
+-- one stop, or only then two
 pub mod SearchLaws

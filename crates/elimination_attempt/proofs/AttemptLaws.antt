@@ -1,16 +1,14 @@
 -- Laws of an attempt: its answer, and what is left of the slices, each from the facts that the code has where it needs it. Assumes nothing.
-use Prim.Native.Nat.{ℕ, ◌+◌}
+use Prim.Native.Nat.{ℕ}
 use mathlib.Core.Path.{◌≡◌, refl, sym, ap, ◌∙◌}
-use mathlib.Core.Bool.{Bool, true, false, true≢false, false≢true}
-use mathlib.Core.List.{List, ◌++◌}
+use mathlib.Core.Bool.{Bool, true, false, true≢false}
 use Rattle.std.proofs.Common.{Option}
-use lib.ListN.{length, take, drop}
-use lib.Seq.{take_at, drop_at}
 use lib.Ieee.{Float}
 use Rattle.route_saving.specs.floats.Binary64.{◌⊕◌, is_finite}
 use Rattle.route_saving.specs.models.Vehicle.{fixed_cost_in_distance}
 use Rattle.route_saving.specs.models.Problem.{Problem}
-use Rattle.plan_copy.specs.plan.Plan.{Plan, route, saved}
+use Rattle.plan_copy.specs.plan.Plan.{Plan, route}
+use Rattle.plan_copy.specs.plan.declared.routes.Routes.{Routes}
 use Rattle.route_saving.specs.local_search.Options.{then_some}
 use Rattle.route_saving.specs.reinsertion_worth.Worth.{worth}
 use Rattle.route_saving.specs.elimination_moves.Eliminate.{without_route}
@@ -40,17 +38,5 @@ module _ (b : Bool) (y : Plan) (o : Option Plan) (e : then_some b y ≡ o) where
 
 -- ---- what is left of the slices
 
-pub left_accepted : (b : Bool) (ls st ls₁ st₁ : List ℕ) → (b ≡ true → Accepted ls ls₁) → b ≡ true → Left true ls st ls₁ st₁
-left_accepted b ls st ls₁ st₁ a e = record { accepted = λ _. a e; lengths_back = λ f. absurd (true≢false f); stops_back = λ f. absurd (true≢false f) }
-
-pub left_same : (ls st : List ℕ) → Left false ls st ls st
-left_same ls st = record { accepted = λ f. absurd (false≢true f); lengths_back = λ _. refl; stops_back = λ _. refl }
-
--- what was kept in the work cells is put back
-module _ (ls st work kept ls₁ st₁ ls₂ st₂ : List ℕ) (e : kept ≡ saved ls st work) (k : length ls₁ ≡ length ls) (l : length st₁ ≡ length st) where
-  pub left_restored : ls₂ ≡ take (length ls₁) kept → st₂ ≡ take (length st₁) (drop (length ls₁) kept) → Left false ls st ls₂ st₂
-  left_restored a b =
-      let rest = drop (length ls + length st) work in
-      let first : ls₂ ≡ ls = rw (k, e) at a ∙ take_at ls (st ++ rest) (length ls) refl in
-      let second : st₂ ≡ st = rw (k, l, e) at b ∙ ap (λ (x : List ℕ). take (length st) x) (drop_at ls (st ++ rest) (length ls) refl) ∙ take_at st rest (length st) refl in
-      record { accepted = λ f. absurd (false≢true f); lengths_back = λ _. first; stops_back = λ _. second }
+pub left_accepted : (b : Bool) (old new : Routes) → (b ≡ true → Accepted old.lengths.now new.lengths.now) → b ≡ true → Left true old new
+left_accepted b old new a e = record { accepted = λ _. a e; lengths_back = λ f. absurd (true≢false f); stops_back = λ f. absurd (true≢false f) }

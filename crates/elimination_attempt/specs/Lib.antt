@@ -5,9 +5,7 @@ pub use Rattle.route_saving.specs.models as models
 pub use Rattle.plan_copy.specs.plan as plan
 pub use Rattle.route_saving.specs.route_order as route_order
 pub use Rattle.route_saving.specs.route_cost as route_cost
-pub use Rattle.route_saving.specs.route_load as route_load
 pub use Rattle.route_saving.specs.local_search as local_search
-pub use Rattle.route_saving.specs.reinsertion_worth as reinsertion_worth
 pub use Rattle.route_saving.specs.elimination_moves as elimination_moves
 pub use Rattle.route_saving.specs.emptied_route as emptied_route
 -- and their laws

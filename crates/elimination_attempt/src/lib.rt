@@ -3,7 +3,8 @@
 #![tactic(auto)]
 
 ghost use Rattle.std.specs.Prelude.{◌≡◌, ◌+◌, ◌≤◌, length};
-ghost use Rattle.plan_copy.specs.plan.Plan.{split};
+ghost use Rattle.plan_copy.specs.plan.Plan.{saved, split};
+ghost use Rattle.plan_copy.specs.plan.Given.{plan_of, Keeps};
 ghost use Rattle.route_saving.specs.local_search.Options.{then_some};
 ghost use Rattle.route_saving.specs.route_cost.Route.{gain_floor};
 ghost use Rattle.route_saving.specs.elimination_moves.Eliminate.{without_route};
@@ -11,61 +12,70 @@ ghost use Rattle.route_saving.specs.emptied_route.Attempts.{Attempted, emptied, 
 ghost use Rattle.route_saving.specs.evaluation.Given.{of_instance};
 
 use plan_copy::{restore, save};
+use route_saving::routes::Routes;
 use route_saving::{empty_route, is_finite, saved_by};
 
 // Of the crates below, passed on to those above.
 pub use plan_copy::drop_empty;
 pub use route_saving::{
-    Counts, Instance, LocalSearchNext, Pick, Problem, Reduction, Vehicle, constrained,
-    has_soft_windows, next_pick, route_cost_gain_floor,
+    Counts, Demand, Instance, LocalSearchNext, Pick, Problem, Reduction, Vehicle, next_pick,
+    route_cost_gain_floor, routes,
 };
+
+// Both slices are kept in the first work cells.
+fn keep(work: &mut [u16], routes: &Routes)
+    requires { length routes.now.lengths.now + length routes.now.stops.now ≤ length work.old }
+    ensures { work.new ≡ saved routes.now.lengths.now routes.now.stops.now work.old }
+{
+    save(work, routes.lengths, routes.stops);
+}
 
 // Route r goes and its stops find other places, where that gains: else both slices are put back from the work cells.
 fn try_without(
-    lengths: &mut [u16],
-    stops: &mut [u16],
+    routes: &mut Routes,
     work: &mut [u16],
     r: usize,
     saved: f64,
     floor: f64,
-    soft: bool,
     given: &Instance,
 ) -> bool
-    requires { Attempted (of_instance given.now) soft given.now.fleet.needed lengths.old stops.old r
-        × (length lengths.old + length stops.old ≤ length work.old) × (floor ≡ gain_floor given.now.fleet.net.roads) }
-    ensures plan { then_some result (split (fewer lengths.old lengths.new) stops.new) ≡ emptied (of_instance given.now) saved
-        (split lengths.old stops.old) r }
-    ensures slices { Left result lengths.old stops.old lengths.new stops.new }
+    requires attempted { Attempted (of_instance given.now) routes.old r }
+    requires room { length routes.old.lengths.now + length routes.old.stops.now ≤ length work.old }
+    requires floor_is { floor ≡ gain_floor given.now.fleet.net.roads }
+    ensures plan { then_some result (split (fewer routes.old.lengths.now routes.new.lengths.now) routes.new.stops.now)
+        ≡ emptied (of_instance given.now) saved (plan_of routes.old) r }
+    ensures slices { Left result routes.old routes.new }
+    ensures kept { Keeps routes.old routes.new }
 {
-    save(work, lengths, stops);
-    let gained = empty_route(lengths, stops, r, saved, floor, soft, given);
+    keep(work, routes);
+    let gained = empty_route(routes, r, saved, floor, given);
     if gained {
         return true;
     }
-    restore(lengths, stops, work);
+    restore(routes.lengths, routes.stops, work);
     false
 }
 
 // The attempt: where the other routes take the stops of route r for less than it costs they are the plan, in one length less, and else both
 // slices are as before. The work cells have room for both slices.
 pub fn without_route(
-    lengths: &mut [u16],
-    stops: &mut [u16],
+    routes: &mut Routes,
     work: &mut [u16],
     r: usize,
     floor: f64,
-    soft: bool,
     given: &Instance,
 ) -> bool
-    requires { Attempted (of_instance given.now) soft given.now.fleet.needed lengths.old stops.old r
-        × (length lengths.old + length stops.old ≤ length work.old) × (floor ≡ gain_floor given.now.fleet.net.roads) }
-    ensures plan { then_some result (split (fewer lengths.old lengths.new) stops.new) ≡ without_route (of_instance given.now)
-        (split lengths.old stops.old) r }
-    ensures slices { Left result lengths.old stops.old lengths.new stops.new }
+    requires attempted { Attempted (of_instance given.now) routes.old r }
+    requires room { length routes.old.lengths.now + length routes.old.stops.now ≤ length work.old }
+    requires floor_is { floor ≡ gain_floor given.now.fleet.net.roads }
+    ensures plan { then_some result (split (fewer routes.old.lengths.now routes.new.lengths.now) routes.new.stops.now)
+        ≡ without_route (of_instance given.now) (plan_of routes.old) r }
+    ensures slices { Left result routes.old routes.new }
+    ensures kept { Keeps routes.old routes.new }
 {
-    let saved = saved_by(lengths, stops, r, soft, given);
+    let saved = saved_by(routes, r, given);
     if is_finite(saved) {
-        return try_without(lengths, stops, work, r, saved, floor, soft, given);
+        return try_without(routes, work, r, saved, floor, given);
     }
     false
 }

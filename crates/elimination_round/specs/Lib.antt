@@ -5,6 +5,7 @@ pub use Rattle.elimination_attempt.specs.evaluation as evaluation
 pub use Rattle.elimination_attempt.specs.models as models
 pub use Rattle.elimination_attempt.specs.plan as plan
 pub use Rattle.elimination_attempt.specs.route_order as route_order
+pub use Rattle.elimination_attempt.specs.route_cost as route_cost
 pub use Rattle.elimination_attempt.specs.local_search as local_search
 pub use Rattle.elimination_attempt.specs.elimination_moves as elimination_moves
 -- and their laws

@@ -4,45 +4,52 @@
 
 ghost use Rattle.std.specs.Prelude.{◌≡◌};
 ghost use Rattle.elimination_attempt.specs.plan.Plan.{split};
-ghost use Rattle.elimination_attempt.specs.route_order.Order.{following};
-ghost use Rattle.elimination_attempt.specs.route_load.Feasible.{constrained};
+ghost use Rattle.elimination_attempt.specs.plan.Given.{plan_of, Keeps};
+ghost use Rattle.elimination_attempt.specs.route_order.Order.{next_pick, following};
 ghost use Rattle.elimination_attempt.specs.route_cost.Route.{gain_floor};
 ghost use Rattle.elimination_attempt.specs.local_search.Rounds.{try_each};
 ghost use Rattle.elimination_attempt.specs.local_search.Search.{but_last, tried_next, NextLeaves, uncounted};
-ghost use Rattle.elimination_attempt.specs.reinsertion_worth.Worth.{soft as soft-in};
 ghost use Rattle.elimination_attempt.specs.elimination_moves.Eliminate.{attempt};
 ghost use Rattle.elimination_round.specs.Eliminating.{Eliminating};
 ghost use Rattle.elimination_attempt.specs.evaluation.Given.{of_instance};
 
+use elimination_attempt::routes::Routes;
 use elimination_attempt::{LocalSearchNext as Next, next_pick, without_route};
 
 // Of the crates below, passed on to those above.
 pub use elimination_attempt::{
-    Counts, Instance, LocalSearchNext, Pick, Problem, Reduction, Vehicle, constrained, drop_empty,
-    has_soft_windows, route_cost_gain_floor,
+    Counts, Demand, Instance, LocalSearchNext, Pick, Problem, Reduction, Vehicle, drop_empty,
+    route_cost_gain_floor, routes,
 };
+
+// The shortest route after the last pick, stable.
+fn pick_after(routes: &Routes, last: Option<Pick>) -> Option<Pick>
+    ensures { result ≡ next_pick routes.now.lengths.now last }
+{
+    next_pick(routes.lengths, last)
+}
 
 // The attempt at the route that comes next after the last pick. It counts nothing.
 pub fn try_next(
-    lengths: &mut [u16],
-    stops: &mut [u16],
+    routes: &mut Routes,
     work: &mut [u16],
     last: Option<Pick>,
     floor: f64,
-    soft: bool,
     given: &Instance,
 ) -> Next
-    requires eliminating { Eliminating (of_instance given.now) lengths.old stops.old work.old }
-    requires soft_value { (soft ≡ soft-in (of_instance given.now)) × (floor ≡ gain_floor given.now.fleet.net.roads) }
-    ensures round { tried_next (attempt (of_instance given.now)) (split lengths.old stops.old) lengths.old uncounted result
-        (split (but_last lengths.new) stops.new) ≡ try_each (attempt (of_instance given.now)) (split lengths.old stops.old)
-        (following lengths.old last) uncounted }
-    ensures held { NextLeaves 0 given.now.fleet.net.roads.size lengths.old stops.old last uncounted result lengths.new stops.new }
+    requires eliminating { Eliminating (of_instance given.now) routes.old work.old }
+    requires floor_is { floor ≡ gain_floor given.now.fleet.net.roads }
+    ensures round { tried_next (attempt (of_instance given.now)) (plan_of routes.old) routes.old.lengths.now uncounted result
+        (split (but_last routes.new.lengths.now) routes.new.stops.now)
+        ≡ try_each (attempt (of_instance given.now)) (plan_of routes.old) (following routes.old.lengths.now last) uncounted }
+    ensures held { NextLeaves 0 given.now.fleet.net.roads.size routes.old.lengths.now routes.old.stops.now last uncounted result
+        routes.new.lengths.now routes.new.stops.now }
+    ensures kept { Keeps routes.old routes.new }
 {
-    let Some(pick) = next_pick(lengths, last) else {
+    let Some(pick) = pick_after(routes, last) else {
         return Next::End;
     };
-    let gained = without_route(lengths, stops, work, pick.route, floor, soft, given);
+    let gained = without_route(routes, work, pick.route, floor, given);
     if gained {
         return Next::Accepted(Counts { steps: 0, draws: 0 });
     }

@@ -2,7 +2,7 @@
 use Prim.Native.Nat.{ℕ, ◌+◌, ◌-◌, ◌≤◌, ◌<◌}
 use native.Mathlib.Omega.{arith}
 use mathlib.Core.Path.{◌≡◌, sym, ap, ap₂, subst, ◌∙◌}
-use mathlib.Core.Bool.{Bool, true, false, false≢true}
+use mathlib.Core.Bool.{false}
 use mathlib.Core.List.{List, [], ◌∷◌, ◌++◌}
 use Rattle.std.proofs.Common.{Option, None, Some}
 use lib.ListN.{length, get_or, take, drop, length-drop, length-append}
@@ -14,30 +14,31 @@ use Rattle.route_removal.specs.laws.All.{All, all_get}
 use Rattle.route_removal.specs.laws.Edits.{erase, length_erase, all_erase}
 use Rattle.moved_stops.specs.models.Problem.{Problem, Stops}
 use Rattle.route_removal.specs.plan.Plan.{Plan, Holds, Lent, split, route, total, offset}
-use Rattle.route_removal.specs.plan.Slices.{flat_split, route_split, route_within, length_split, length_route, total_erase}
+use Rattle.route_removal.specs.plan.Given.{plan_of, Keeps}
+use Rattle.route_removal.specs.plan.declared.routes.Routes.{Routes}
+use Rattle.route_removal.specs.plan.Slices.{flat_split, route_split, route_within, length_split, length_route, total_erase, total_append}
 use Rattle.moved_stops.specs.local_search.Options.{bind, then_some}
 use Rattle.moved_stops.specs.route_cost.Route.{gain_floor}
 use Rattle.moved_stops.specs.local_search.Planned.{planned_stops}
-use Rattle.moved_stops.specs.RouteCostVisitLaws.{Visiting}
 use Rattle.moved_stops.specs.elimination_moves.Eliminate.{Moved, moving, move_all, if_gained}
 use Rattle.moved_stops.specs.elimination_moves.Largest.{in_order, moving_is}
-use Rattle.moved_stops.specs.stop_moves.Moves.{held_by, Waiting, Grown, Kept}
+use Rattle.moved_stops.specs.stop_moves.Moves.{held_by}
 use Rattle.emptied_route.specs.Attempts.{Attempted, emptied, fewer, Accepted}
 
--- ---- where route r lies
+-- ---- what is asked of an attempt
 
-module _ (p : Problem) (s needed : Bool) (ls st : List ℕ) (r : ℕ) (g : Attempted p s needed ls st r) where
-  pub attempt_routes : All (Stops p.roads.size) (split ls st)
-  attempt_routes = planned_stops p.roads.size (split ls st) g.planned
+module _ (p : Problem) (lent : Routes) (r : ℕ) (g : Attempted p lent r) where
+  attempt_routes : All (Stops p.roads.size) (plan_of lent)
+  attempt_routes = planned_stops p.roads.size (plan_of lent) g.planned
 
-  pub attempt_visit : (at : ℕ) → at ≡ offset ls r → Visiting p.roads.size ls st at r
-  attempt_visit at e = record { lent = g.lent; routes = attempt_routes; within = omega (arith, g.there); begins = e }
+  pub attempt_stops : Stops p.roads.size (route r (plan_of lent))
+  attempt_stops = all_get r [] attempt_routes (omega (arith, length_split lent.lengths.now lent.stops.now, g.there))
 
-  attempt_sum : total ls ≤ 256
-  attempt_sum = omega (arith, g.planned.few, ap length (flat_split ls st), length-take-le (total ls) st g.lent.inside)
+  attempt_sum : total lent.lengths.now ≤ 256
+  attempt_sum = omega (arith, g.planned.few, ap length (flat_split lent.lengths.now lent.stops.now), length-take-le (total lent.lengths.now) lent.stops.now lent.lent.inside)
 
-  pub attempt_count : get_or ls r 0 ≤ 256
-  attempt_count = omega (arith, attempt_sum, route_within ls r g.there)
+  pub attempt_count : get_or lent.lengths.now r 0 ≤ 256
+  attempt_count = omega (arith, attempt_sum, route_within lent.lengths.now r g.there)
 
 -- ---- the stops of route r
 
@@ -57,114 +58,97 @@ module _ (ls st : List ℕ) (r at : ℕ) (l : Lent ls st) (h : r < length ls) (e
 
 pub ruleset keep_laws = (rules, keep_end, keep_done)
 
--- ---- all lengths but the last, lent and given back
-
-module _ (ls : List ℕ) (h : 0 < length ls) where
-  lent_fewer : take (length ls - 1 - 0) (drop 0 ls) ≡ fewer ls ls
-  lent_fewer = let z : length ls - 1 - 0 ≡ length ls - 1 = omega arith in rw z
-
-  pub waiting_lent : (p : Problem) (s needed : Bool) (st left : List ℕ) (count : ℕ) → Waiting p s needed (fewer ls ls) st left count
-      → Waiting p s needed (take (length ls - 1 - 0) (drop 0 ls)) st left count
-  waiting_lent p s needed st left count w = rw lent_fewer w
-
-  module _ (out : List ℕ) (k : length out ≡ length (take (length ls - 1 - 0) (drop 0 ls))) where
-    abbrev whole : List ℕ
-    whole = out ++ drop (length ls - 1 - 0) (drop 0 ls)
-
-    back_fewer : fewer ls whole ≡ out
-    back_fewer = take_at out (drop (length ls - 1 - 0) (drop 0 ls)) (length ls - 1) (omega (arith, k, ap length lent_fewer, length-take-le (length ls - 1) ls (omega arith)))
-
-    pub into_moved : (p : Problem) (saved : Float) (xs st st₁ : List ℕ) (r : Option Float)
-        → held_by r (split out st₁) ≡ move_all p saved xs (split (take (length ls - 1 - 0) (drop 0 ls)) st)
-        → held_by r (split (fewer ls whole) st₁) ≡ move_all p saved xs (split (fewer ls ls) st)
-    into_moved p saved xs st st₁ r e =
-        ap (λ (l : List ℕ). held_by r (split l st₁)) back_fewer ∙ e ∙ ap (λ (l : List ℕ). move_all p saved xs (split l st)) lent_fewer
-
-    pub into_kept : (n count : ℕ) (r : Option Float) (st₁ : List ℕ) → Kept n r (total (take (length ls - 1 - 0) (drop 0 ls)) + count) out st₁
-        → Kept n r (total (fewer ls ls) + count) (fewer ls whole) st₁
-    into_kept n count r st₁ g =
-        subst (λ (l : List ℕ). Kept n r (total (fewer ls ls) + count) l st₁) (sym back_fewer)
-        (subst (λ (l : List ℕ). Kept n r (total l + count) out st₁) lent_fewer g)
-
-    pub into_last : whole ≡ fewer ls whole ++ drop (length ls - 1) ls
-    into_last =
-        let z : length ls - 1 - 0 ≡ length ls - 1 = omega arith in
-        ap (λ (m : ℕ). out ++ drop m ls) z ∙ ap (λ (l : List ℕ). l ++ drop (length ls - 1) ls) (sym back_fewer)
-
 -- ---- route r goes
 
-module _ (p : Problem) (s needed : Bool) (ls st : List ℕ) (r : ℕ) (g : Attempted p s needed ls st r)
-    (left : List ℕ) (c : take (get_or ls r 0) left ≡ route r (split ls st))
-    (ls₁ st₁ : List ℕ) (e : ls₁ ≡ erase r ls ++ 0 ∷ []) (h : Holds (erase r (split ls st)) (total ls - get_or ls r 0) (erase r ls) st₁) where
-  long : length (erase r ls) ≡ length ls - 1
-  long = omega (arith, length_erase r ls g.there)
+abbrev Found : Option Float → Type 0
+Found None = ⊥
+Found (Some added) = Unit
 
-  same_long : length ls₁ ≡ length ls
-  same_long = rw e (omega (arith, length-append (erase r ls) (0 ∷ []), long, g.there))
+module _ (p : Problem) (lent : Routes) (r : ℕ) (g : Attempted p lent r)
+    (left : List ℕ) (c : take (get_or lent.lengths.now r 0) left ≡ route r (plan_of lent))
+    (lent₁ : Routes) (e : lent₁.lengths.now ≡ erase r lent.lengths.now ++ 0 ∷ [])
+    (h : Holds (erase r (plan_of lent)) (total lent.lengths.now - get_or lent.lengths.now r 0) (erase r lent.lengths.now) lent₁.stops.now) (k : Keeps lent lent₁) where
+  -- all lengths but the last
+  abbrev pub front : List ℕ
+  front = take (length lent₁.lengths.now - 1) lent₁.lengths.now
 
-  others : fewer ls₁ ls₁ ≡ erase r ls
+  -- the stops of route r
+  abbrev pub part : List ℕ
+  part = take (get_or lent.lengths.now r 0) left
+
+  long : length (erase r lent.lengths.now) ≡ length lent.lengths.now - 1
+  long = omega (arith, length_erase r lent.lengths.now g.there)
+
+  others : front ≡ erase r lent.lengths.now
   others =
-      ap (λ (k : ℕ). take (k - 1) ls₁) same_long ∙ ap (λ (l : List ℕ). take (length ls - 1) l) e
-      ∙ take_at (erase r ls) (0 ∷ []) (length ls - 1) long
+      ap (λ (k : ℕ). take (k - 1) lent₁.lengths.now) k.count ∙ ap (λ (l : List ℕ). take (length lent.lengths.now - 1) l) e
+      ∙ take_at (erase r lent.lengths.now) (0 ∷ []) (length lent.lengths.now - 1) long
 
-  rest_routes : split (fewer ls₁ ls₁) st₁ ≡ erase r (split ls st)
+  rest_routes : split front lent₁.stops.now ≡ erase r (plan_of lent)
   rest_routes = rw others h.routes
 
-  number : get_or ls r 0 ≡ length (route r (split ls st))
-  number = sym (length_route ls st g.lent.inside r)
+  number : length part ≡ get_or lent.lengths.now r 0
+  number = ap length c ∙ length_route lent.lengths.now lent.stops.now lent.lent.inside r
 
-  pub erased_some : 0 < length ls₁
-  erased_some = omega (arith, same_long, g.there)
+  sum_all : total front + length part ≡ total lent.lengths.now
+  sum_all = omega (arith, ap total others, number, total_erase lent.lengths.now r g.there)
 
-  pub erased_waiting : get_or ls r 0 ≤ length left → length st₁ ≡ length st → Waiting p s needed (fewer ls₁ ls₁) st₁ left (get_or ls r 0)
-  erased_waiting k l =
-      let t = total_erase ls r g.there in
-      let u : total (fewer ls₁ ls₁) ≡ total (erase r ls) = ap total others in
-      record {
-        admitted = g.admitted;
-        soft_told = g.soft_told;
-        needed_told = g.needed_told;
-        lent = record { inside = omega (arith, g.lent.inside); few = omega (arith, g.lent.few) };
-        routes = rw rest_routes (all_erase r (attempt_routes p s needed ls st r g));
-        few = omega (arith, attempt_sum p s needed ls st r g);
-        free = omega (arith, g.lent.inside);
-        there = k;
-        places = rw c (all_get r [] (attempt_routes p s needed ls st r g) (omega (arith, length_split ls st, g.there)));
-      }
+  pub front_routes : All (Stops p.roads.size) (split front lent₁.stops.now)
+  front_routes = rw rest_routes (all_erase r (attempt_routes p lent r g))
 
-  -- the stops are moved in the order of the definition
-  module _ (saved : Float) (sum : Option Float) (ls₂ st₂ : List ℕ)
-      (m : held_by sum (split (fewer ls₁ ls₂) st₂) ≡ move_all p saved (in_order p.demand (get_or ls r 0) (take (get_or ls r 0) left)) (split (fewer ls₁ ls₁) st₁)) where
-    there : fewer ls₁ ls₂ ≡ fewer ls ls₂
-    there = ap (λ (k : ℕ). take (k - 1) ls₂) same_long
+  pub front_few : total front + length part ≤ 256
+  front_few = omega (arith, sum_all, attempt_sum p lent r g)
 
-    whole_move : held_by sum (split (fewer ls ls₂) st₂) ≡ move_all p saved (moving p (route r (split ls st))) (erase r (split ls st))
-    whole_move =
-        ap (λ (l : List ℕ). held_by sum (split l st₂)) (sym there) ∙ m
-        ∙ ap₂ (λ (xs : List ℕ) (x : Plan). move_all p saved xs x) (ap (in_order p.demand (get_or ls r 0)) c ∙ ap (λ (k : ℕ). in_order p.demand k (route r (split ls st))) number ∙ sym (moving_is p (route r (split ls st)))) rest_routes
+  pub front_free : total front + length part ≤ length lent₁.stops.now
+  front_free = omega (arith, sum_all, lent.lent.inside, k.room)
 
-    pub empty_stuck : sum ≡ None → then_some false (split (fewer ls ls₂) st₂) ≡ emptied p saved (split ls st) r
-    unfolding bind then_some
-    empty_stuck q = ap (λ (o : Option Moved). bind o (if_gained p saved)) (ap (λ (x : Option Float). held_by x (split (fewer ls ls₂) st₂)) (sym q) ∙ whole_move)
+  pub front_places : Stops p.roads.size part
+  front_places = rw c (attempt_stops p lent r g)
 
-    module _ (added : Float) (q : sum ≡ Some added) where
-      pub empty_gained : (x : Float) → x ≡ gain_floor p.roads → then_some (lt added (saved ⊖ x)) (split (fewer ls ls₂) st₂) ≡ emptied p saved (split ls st) r
-      unfolding bind if_gained
-      empty_gained x ex =
-          ap (λ (y : Float). then_some (lt added (saved ⊖ y)) (split (fewer ls ls₂) st₂)) ex
-          ∙ ap (λ (o : Option Moved). bind o (if_gained p saved)) (ap (λ (x : Option Float). held_by x (split (fewer ls ls₂) st₂)) (sym q) ∙ whole_move)
+  -- the lengths that come back
+  module _ (out : List ℕ) (z : length out ≡ length front) where
+    abbrev pub whole : List ℕ
+    whole = out ++ drop (length lent₁.lengths.now - 1) lent₁.lengths.now
 
-      pub empty_accepted : Kept p.roads.size sum (total (fewer ls₁ ls₁) + get_or ls r 0) (fewer ls₁ ls₂) st₂ → ls₂ ≡ fewer ls₁ ls₂ ++ drop (length ls₁ - 1) ls₁
-          → Accepted ls ls₂
-      empty_accepted k d =
-          let w : Grown p.roads.size (total (fewer ls₁ ls₁) + get_or ls r 0) (fewer ls₁ ls₂) st₂ =
-          subst (λ (x : Option Float). Kept p.roads.size x (total (fewer ls₁ ls₁) + get_or ls r 0) (fewer ls₁ ls₂) st₂) q k in
-          let tail : drop (length ls₁ - 1) ls₁ ≡ 0 ∷ [] =
-          ap (λ (k : ℕ). drop (k - 1) ls₁) same_long ∙ ap (λ (l : List ℕ). drop (length ls - 1) l) e ∙ drop_at (erase r ls) (0 ∷ []) (length ls - 1) long in
-          record {
-            sum = ap total (sym there) ∙ w.sum ∙ omega (arith, ap total others, total_erase ls r g.there);
-            last = d ∙ ap₂ (λ (a b : List ℕ). a ++ b) there tail;
-          }
+    out_long : length out ≡ length lent.lengths.now - 1
+    out_long = z ∙ ap length others ∙ long
 
-pub not_accepted : {A : Type 0} → false ≡ true → A
-not_accepted e = absurd (false≢true e)
+    fewer_is : fewer lent.lengths.now whole ≡ out
+    fewer_is = take_at out (drop (length lent₁.lengths.now - 1) lent₁.lengths.now) (length lent.lengths.now - 1) out_long
+
+    last_is : drop (length lent₁.lengths.now - 1) lent₁.lengths.now ≡ 0 ∷ []
+    last_is =
+        ap (λ (k : ℕ). drop (k - 1) lent₁.lengths.now) k.count ∙ ap (λ (l : List ℕ). drop (length lent.lengths.now - 1) l) e
+        ∙ drop_at (erase r lent.lengths.now) (0 ∷ []) (length lent.lengths.now - 1) long
+
+    pub whole_lent : (st : List ℕ) → Lent out st → Lent whole st
+    unfolding total
+    whole_lent st l =
+        record { inside = omega (arith, total_append out (drop (length lent₁.lengths.now - 1) lent₁.lengths.now), ap total last_is, l.inside); few = l.few }
+
+    -- the stops are moved in the order of the definition
+    module _ (saved : Float) (sum : Option Float) (st : List ℕ)
+        (m : held_by sum (split out st) ≡ move_all p saved (in_order p.demand (length part) part) (split front lent₁.stops.now)) where
+      whole_move : held_by sum (split (fewer lent.lengths.now whole) st) ≡ move_all p saved (moving p (route r (plan_of lent))) (erase r (plan_of lent))
+      whole_move =
+          ap (λ (l : List ℕ). held_by sum (split l st)) fewer_is ∙ m
+          ∙ ap₂ (λ (xs : List ℕ) (x : Plan). move_all p saved xs x) (ap (λ (xs : List ℕ). in_order p.demand (length xs) xs) c ∙ sym (moving_is p (route r (plan_of lent)))) rest_routes
+
+      pub empty_stuck : sum ≡ None → then_some false (split (fewer lent.lengths.now whole) st) ≡ emptied p saved (plan_of lent) r
+      unfolding bind then_some
+      empty_stuck q = ap (λ (o : Option Moved). bind o (if_gained p saved)) (ap (λ (x : Option Float). held_by x (split (fewer lent.lengths.now whole) st)) (sym q) ∙ whole_move)
+
+      module _ (added : Float) (q : sum ≡ Some added) where
+        pub empty_gained : (x : Float) → x ≡ gain_floor p.roads
+            → then_some (lt added (saved ⊖ x)) (split (fewer lent.lengths.now whole) st) ≡ emptied p saved (plan_of lent) r
+        unfolding bind if_gained
+        empty_gained x ex =
+            ap (λ (y : Float). then_some (lt added (saved ⊖ y)) (split (fewer lent.lengths.now whole) st)) ex
+            ∙ ap (λ (o : Option Moved). bind o (if_gained p saved)) (ap (λ (x : Option Float). held_by x (split (fewer lent.lengths.now whole) st)) (sym q) ∙ whole_move)
+
+        pub empty_accepted : ((sum ≡ None → ⊥) → total out ≡ total front + length part) → Accepted lent.lengths.now whole
+        empty_accepted f =
+            record {
+              sum = ap total fewer_is ∙ f (λ n. subst Found (sym q ∙ n) tt) ∙ sum_all;
+              last = ap₂ (λ (a b : List ℕ). a ++ b) (sym fewer_is) last_is;
+            }

@@ -3,21 +3,18 @@ use Rattle.std.specs.Prelude.{ℕ, ◌-◌, ◌<◌, ◌≡◌, Bool, true, fals
 use Rattle.std.specs.Prelude.{Option}
 use Rattle.route_removal.specs.laws.Edits.{erase}
 use Rattle.moved_stops.specs.models.Problem.{Problem, Admitted}
-use Rattle.route_removal.specs.plan.Plan.{Plan, Lent, split, route, total}
+use Rattle.route_removal.specs.plan.Plan.{Plan, route, total}
+use Rattle.route_removal.specs.plan.Given.{plan_of}
+use Rattle.route_removal.specs.plan.declared.routes.Routes.{Routes}
 use Rattle.moved_stops.specs.local_search.Options.{bind}
-use Rattle.moved_stops.specs.route_load.Feasible.{constrained}
 use Rattle.moved_stops.specs.local_search.Planned.{Planned}
-use Rattle.moved_stops.specs.reinsertion_worth.Worth.{soft}
 use Rattle.moved_stops.specs.elimination_moves.Eliminate.{moving, move_all, if_gained}
 
 -- route r is to go from a plan
-pub record Attempted (p : Problem) (s needed : Bool) (lengths stops : List ℕ) (r : ℕ) : Type 0 where
+pub record Attempted (p : Problem) (lent : Routes) (r : ℕ) : Type 0 where
   pub admitted : Admitted p
-  pub soft_told : s ≡ soft p
-  pub needed_told : needed ≡ constrained p
-  pub lent : Lent lengths stops
-  pub planned : Planned p.roads.size (split lengths stops)
-  pub there : r < length lengths
+  pub planned : Planned p.roads.size (plan_of lent)
+  pub there : r < length lent.lengths.now
 
 -- its stops moved for less than `saved`
 abbrev pub emptied : Problem → Float → Plan → ℕ → Option Plan
@@ -33,7 +30,7 @@ pub record Accepted (before lengths : List ℕ) : Type 0 where
   pub last : lengths ≡ fewer before lengths ++ 0 ∷ []
 
 -- a refused one leaves both slices as they were
-pub record Left (r : Bool) (before stops₀ lengths stops : List ℕ) : Type 0 where
-  pub accepted : r ≡ true → Accepted before lengths
-  pub lengths_back : r ≡ false → lengths ≡ before
-  pub stops_back : r ≡ false → stops ≡ stops₀
+pub record Left (r : Bool) (old new : Routes) : Type 0 where
+  pub accepted : r ≡ true → Accepted old.lengths.now new.lengths.now
+  pub lengths_back : r ≡ false → new.lengths.now ≡ old.lengths.now
+  pub stops_back : r ≡ false → new.stops.now ≡ old.stops.now

@@ -9,4 +9,4 @@ abbrev pub of_fleet : Fleet → Problem
 of_fleet f = problem_of [] f.net.places f.net.roads f.vehicle
 
 abbrev pub of_instance : Instance → Problem
-of_instance g = problem_of g.demand.now g.fleet.net.places g.fleet.net.roads g.fleet.vehicle
+of_instance g = problem_of g.demand.cells.now g.fleet.net.places g.fleet.net.roads g.fleet.vehicle

@@ -3,10 +3,12 @@
 #![tactic(auto)]
 
 pub mod check;
+pub mod demand;
 pub mod eval;
 pub mod fleet;
 pub mod instance;
 
+pub use demand::Demand;
 pub use fleet::Fleet;
 pub use instance::Instance;
 

@@ -5,3 +5,5 @@ pub use Rattle.plan.specs as plan
 -- and their laws
 pub use Rattle.plan.proofs.Exchanges as PlanExchanges
 pub use Rattle.plan.proofs.PlanLaws as PlanPlanLaws
+-- and its struct
+pub use Rattle.plan.specs.declared.routes.Routes as PlanRoutes

@@ -2,18 +2,22 @@
 #![tactic(auto)]
 
 ghost use Rattle.std.specs.Prelude.{◌≡◌};
-ghost use Rattle.plan.specs.Plan.{Lent, HasStop, split, exchange_stops};
+ghost use Rattle.plan.specs.Plan.{HasStop, total, exchange_stops};
+ghost use Rattle.plan.specs.Given.{plan_of, Becomes};
+
+use plan::routes::{Position, Routes};
 
 // Of the crates below, passed on to those above.
-pub use plan::{clear, copy_part, cut, offset, swap_parts};
+pub use plan::{clear, copy_part, cut, routes, swap_parts};
 
-// The stop at i of route a and the stop at j of route b, another one, are exchanged.
-pub fn exchange_stops(stops: &mut [u16], lengths: &[u16], a: usize, i: usize, b: usize, j: usize)
-    requires lent { Lent lengths.now stops.old }
-    requires fact { (a ≡ b → ⊥) × HasStop (split lengths.now stops.old) a i × HasStop (split lengths.now stops.old) b j }
-    ensures { split lengths.now stops.new ≡ exchange_stops a i b j (split lengths.now stops.old) }
+// The stop at one position and the stop at another one, of another route, are exchanged.
+pub fn exchange_stops(routes: &mut Routes, a: Position, b: Position)
+    requires other { a.route ≡ b.route → ⊥ }
+    requires first { HasStop (plan_of routes.old) a.route a.pos }
+    requires second { HasStop (plan_of routes.old) b.route b.pos }
+    ensures { Becomes routes.old (exchange_stops a.route a.pos b.route b.pos (plan_of routes.old)) (total routes.old.lengths.now) routes.new }
 {
-    let p = offset(lengths, a) + i;
-    let q = offset(lengths, b) + j;
-    plan::swap(stops, p, q);
+    let p = routes.begins(a.route) + a.pos;
+    let q = routes.begins(b.route) + b.pos;
+    plan::swap(routes.stops, p, q);
 }

@@ -1,9 +1,8 @@
 -- The tests of a position, the load aside: the load test is made once for a route, before its positions. Assumes nothing.
-use Rattle.std.specs.Prelude.{ℕ, ◌≡◌, refl, Bool, true, false, cond, not, ◌&&◌, ◌||◌, List, [], ℤ, Float}
+use Rattle.std.specs.Prelude.{ℕ, ◌≡◌, refl, Bool, true, false, cond, not, ◌&&◌, ◌||◌, List, []}
 use Rattle.std.proofs.Common.{ap}
 use Rattle.std.specs.Prelude.{Option, Some}
 use Rattle.route_times.specs.laws.Edits.{insert_at}
-use Rattle.route_times.specs.models.declared.vehicle.Vehicle.{Vehicle}
 use Rattle.route_times.specs.models.Problem.{Problem, depot, problem_of}
 use Rattle.route_times.specs.route_cost.declared.Insertion.{Insertion}
 use Rattle.route_times.specs.route_cost.Route.{insertion_cost}

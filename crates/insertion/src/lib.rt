@@ -14,31 +14,44 @@ use route_times::{Network, may_fit, trial_ok};
 
 // Of the crates below, passed on to those above.
 pub use route_times::{
-    Counts, DistanceMatrix, Fleet, Insertion, Instance, LocalSearchNext, Pick, Reduction, Vehicle,
-    checked, constrained, copy_part, feasible, has_room, insertion_cost, next_pick, offset,
-    prepare, put_in, rounds, take_out, within_capacity,
+    Counts, Demand, DistanceMatrix, Fleet, Insertion, Instance, LocalSearchNext, Pick, Reduction,
+    Times, Vehicle, checked, constrained, copy_part, feasible, has_room, insertion_cost, next_pick,
+    rounds, routes, within_capacity,
 };
 
-// The quick test by the departures and latest arrivals in the work cells.
-fn quick(route: &[u16], cells: &[f64], pos: usize, c: usize, depot: usize, net: &Network) -> bool
-    requires { (depot < net.now.roads.size) × (c < net.now.roads.size) × (pos ≤ length route.now) × Stops net.now.roads.size route.now
-        × (512 ≤ length cells.now) }
-    ensures { result ≡ may_fit net.now.places net.now.roads depot route.now (take (length route.now) cells.now)
-        (take (length route.now) (drop 256 cells.now)) pos c }
+// The quick test by the departures and latest arrivals.
+fn quick(route: &[u16], times: &Times, pos: usize, c: usize, depot: usize, net: &Network) -> bool
+    requires home { depot < net.now.roads.size }
+    requires there { c < net.now.roads.size }
+    requires within { pos ≤ length route.now }
+    requires stops { Stops net.now.roads.size route.now }
+    ensures { result ≡ may_fit net.now.places net.now.roads depot route.now (take (length route.now) times.now.cells.now)
+        (take (length route.now) (drop 256 times.now.cells.now)) pos c }
 {
-    may_fit(route, &cells[0..256], &cells[256..512], pos, c, depot, net)
+    may_fit(
+        route,
+        &times.cells[0..256],
+        &times.cells[256..512],
+        pos,
+        c,
+        depot,
+        net,
+    )
 }
 
 // Whether c may go in at pos of a route that has room for it: the quick test and then the check of the trial route, where they are
-// needed. `route_times::prepare` fills the work cells.
-pub fn may_pass(route: &[u16], cells: &[f64], pos: usize, c: usize, fleet: &Fleet) -> bool
-    requires { (c < fleet.now.net.roads.size) × (pos ≤ length route.now) × Stops fleet.now.net.roads.size route.now × (512 ≤ length cells.now) }
-    ensures { result ≡ may_pass (of_fleet fleet.now) route.now (held (length route.now) cells.now) pos c }
+// needed. The times are those that `prepare` keeps.
+#[tactic(auto, unfolding(crate::specs::Pass::may_pass))]
+pub fn may_pass(route: &[u16], times: &Times, pos: usize, c: usize, fleet: &Fleet) -> bool
+    requires there { c < fleet.now.net.roads.size }
+    requires within { pos ≤ length route.now }
+    requires stops { Stops fleet.now.net.roads.size route.now }
+    ensures { result ≡ may_pass (of_fleet fleet.now) route.now (held (length route.now) times.now.cells.now) pos c }
 {
     if !fleet.needed {
         return true;
     }
-    let fits = quick(route, cells, pos, c, fleet.vehicle.depot_id, &fleet.net);
+    let fits = quick(route, times, pos, c, fleet.vehicle.depot_id, &fleet.net);
     fits && trial_ok(route, pos, c, fleet)
 }
 
@@ -50,20 +63,23 @@ fn cheaper(cost: f64, best: Option<Insertion>) -> bool
 }
 
 // One position of route k, which has room for c: the better of what it gives and the best so far.
+#[tactic(auto, unfolding(crate::specs::Pass::pass_position))]
 pub fn try_position(
     route: &[u16],
-    cells: &[f64],
+    times: &Times,
     pos: usize,
     c: usize,
     k: usize,
     best: Option<Insertion>,
     fleet: &Fleet,
 ) -> Option<Insertion>
-    requires { (c < fleet.now.net.roads.size) × (pos ≤ length route.now) × Stops fleet.now.net.roads.size route.now × (512 ≤ length cells.now) }
-    ensures { result ≡ pass_position (of_fleet fleet.now) c k route.now (held (length route.now) cells.now) pos best }
+    requires there { c < fleet.now.net.roads.size }
+    requires within { pos ≤ length route.now }
+    requires stops { Stops fleet.now.net.roads.size route.now }
+    ensures { result ≡ pass_position (of_fleet fleet.now) c k route.now (held (length route.now) times.now.cells.now) pos best }
 {
     let cost = insertion_cost(route, pos, c, fleet.vehicle.depot_id, &fleet.net.roads);
-    if cheaper(cost, best) && may_pass(route, cells, pos, c, fleet) {
+    if cheaper(cost, best) && may_pass(route, times, pos, c, fleet) {
         Some(Insertion {
             cost: cost,
             route: k,

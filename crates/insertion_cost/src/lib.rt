@@ -12,10 +12,9 @@ use local_search::get;
 pub use local_search::feasible::{checked, constrained, feasible, trial_ok};
 pub use local_search::rounds::{Counts, Next as LocalSearchNext, Reduction};
 pub use local_search::{
-    Customer, DistanceMatrix, Fleet, Insertion, Instance, Network, Pick, TimeWindow, Vehicle, abs,
-    copy_part, customer_at, cut, has_room, infinity, insert_at, max, min, next_pick, offset,
-    put_in, rounds, route_cost_gain_floor, route_cost_route_distance, take_out, travel_time,
-    within_capacity,
+    Customer, Demand, DistanceMatrix, Fleet, Insertion, Instance, Network, Pick, TimeWindow,
+    Vehicle, abs, copy_part, customer_at, cut, has_room, infinity, insert_at, max, min, next_pick,
+    rounds, route_cost_gain_floor, route_cost_route_distance, routes, travel_time, within_capacity,
 };
 
 // The stop before position pos of a route, the depot before the first.

@@ -6,5 +6,4 @@ pub use Rattle.stop_exchange.specs.route_load as route_load
 pub use Rattle.stop_exchange.specs.local_search as local_search
 pub use Rattle.stop_exchange.specs.perturbation as perturbation
 -- and their laws
-pub use Rattle.stop_exchange.specs.RouteLoadFeasibleLaws as RouteLoadFeasibleLaws
 pub use Rattle.stop_exchange.specs.PerturbationMoveDraws as PerturbationMoveDraws

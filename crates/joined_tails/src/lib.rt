@@ -2,90 +2,83 @@
 // (local_search/route_minimization.rs, `Pool::perturb`).
 #![tactic(auto)]
 
-ghost use Rattle.std.specs.Prelude.{◌≡◌, ◌-◌, ◌≤◌, length, take, drop};
-ghost use Rattle.stop_exchange.specs.models.Problem.{of_demand, Demands, Stops};
-ghost use Rattle.stop_exchange.specs.plan.Plan.{Lent, HasPosition, split};
-ghost use Rattle.stop_exchange.specs.route_load.Feasible.{load, fits, feasible};
+ghost use Rattle.std.specs.Prelude.{◌≡◌, ◌≤◌, length, take};
+ghost use Rattle.stop_exchange.specs.models.Problem.{of_demand};
+ghost use Rattle.stop_exchange.specs.plan.Plan.{HasPosition};
+ghost use Rattle.stop_exchange.specs.plan.Given.{plan_of};
+ghost use Rattle.stop_exchange.specs.route_load.Feasible.{load, fits};
 ghost use Rattle.stop_exchange.specs.local_search.Planned.{Planned};
 ghost use Rattle.stop_exchange.specs.perturbation.Parts.{joined, joined_stands};
 ghost use Rattle.stop_exchange.specs.evaluation.Given.{of_instance};
 
-use stop_exchange::{copy_part, feasible, offset, within_capacity};
+use stop_exchange::routes::{Position, Routes};
+use stop_exchange::{copy_part, feasible, within_capacity};
 
 // Of the crates below, passed on to those above.
-pub use stop_exchange::{Instance, Vehicle, draw, draw_bool, eject, other_than, try_exchange};
+pub use stop_exchange::{
+    Demand, Draws, Instance, Vehicle, eject, other_than, routes, try_exchange,
+};
 
-// The front of route a up to i goes to the first work cells, and behind it the tail of route b from j. Returns how many stops these are.
-fn join(
-    work: &mut [u16],
-    lengths: &[u16],
-    stops: &[u16],
-    a: usize,
-    i: usize,
-    b: usize,
-    j: usize,
-) -> usize
-    requires lent { Lent lengths.now stops.now }
-    requires fact { (a ≡ b → ⊥) × HasPosition (split lengths.now stops.now) a i × HasPosition (split lengths.now stops.now) b j
-        × (length stops.now ≤ length work.old) }
-    ensures count { result ≡ length (joined a i b j (split lengths.now stops.now)) }
-    ensures cells { take result work.new ≡ joined a i b j (split lengths.now stops.now) }
+// The front of route a up to its position goes to the first work cells, and behind it the tail of route b from its. Returns how many stops these are.
+#[tactic(auto, using(crate::proofs::JoinLaws::join_laws))]
+fn join(routes: &Routes, work: &mut [u16], a: Position, b: Position) -> usize
+    requires other { a.route ≡ b.route → ⊥ }
+    requires first { HasPosition (plan_of routes.now) a.route a.pos }
+    requires second { HasPosition (plan_of routes.now) b.route b.pos }
+    requires has_room { length routes.now.stops.now ≤ length work.old }
+    ensures count { result ≡ length (joined a.route a.pos b.route b.pos (plan_of routes.now)) }
+    ensures cells { take result work.new ≡ joined a.route a.pos b.route b.pos (plan_of routes.now) }
 {
-    let p = offset(lengths, a);
-    let q = offset(lengths, b) + j;
-    let m = lengths[b] as usize - j;
-    copy_part(work, 0, stops, p, i);
-    copy_part(work, i, stops, q, m);
-    i + m
+    let p = routes.begins(a.route);
+    let q = routes.begins(b.route) + b.pos;
+    let m = routes.lengths[b.route] as usize - b.pos;
+    copy_part(work, 0, routes.stops, p, a.pos);
+    copy_part(work, a.pos, routes.stops, q, m);
+    a.pos + m
 }
 
-// Whether the stops that stand from `at` to `end` are a feasible route.
-pub fn part_feasible(stops: &[u16], at: usize, end: usize, given: &Instance) -> bool
-    requires { (at ≤ end) × (end ≤ length stops.now) × Stops given.now.fleet.net.roads.size (take (end - at) (drop at stops.now)) }
-    ensures { result ≡ feasible (of_instance given.now) (take (end - at) (drop at stops.now)) }
-{
-    feasible(&stops[at..end], given)
-}
-
-// Whether the front of route a up to i with the tail of route b from j behind it has stops and is feasible. It is put into the work cells.
+// Whether the front of route a up to its position with the tail of route b from its behind it has stops and is feasible. It is put into the work cells.
+#[tactic(auto, using(crate::proofs::JoinLaws::cells_laws))]
 pub fn joined_stands(
+    routes: &Routes,
     work: &mut [u16],
-    lengths: &[u16],
-    stops: &[u16],
-    a: usize,
-    i: usize,
-    b: usize,
-    j: usize,
+    a: Position,
+    b: Position,
     given: &Instance,
 ) -> bool
-    requires { (a ≡ b → ⊥) × HasPosition (split lengths.now stops.now) a i × HasPosition (split lengths.now stops.now) b j
-        × (length stops.now ≤ length work.old) × Lent lengths.now stops.now × Planned given.now.fleet.net.roads.size (split lengths.now stops.now) }
-    ensures { result ≡ joined_stands (of_instance given.now) a i b j (split lengths.now stops.now) }
+    requires other { a.route ≡ b.route → ⊥ }
+    requires first { HasPosition (plan_of routes.now) a.route a.pos }
+    requires second { HasPosition (plan_of routes.now) b.route b.pos }
+    requires has_room { length routes.now.stops.now ≤ length work.old }
+    requires planned { Planned given.now.fleet.net.roads.size (plan_of routes.now) }
+    ensures { result ≡ joined_stands (of_instance given.now) a.route a.pos b.route b.pos (plan_of routes.now) }
 {
-    let m = join(work, lengths, stops, a, i, b, j);
+    let m = join(routes, work, a, b);
     if m == 0 {
         return false;
     }
-    part_feasible(work, 0, m, given)
+    feasible(&work[..m], given)
 }
 
-// Whether the load of the front of route a up to i with the tail of route b from j behind it is within capacity. It is put into the work cells.
+// Whether the load of the front of route a up to its position with the tail of route b from its behind it is within capacity. It is put into the work
+// cells.
+#[tactic(auto, using(crate::proofs::JoinLaws::cells_laws))]
 pub fn joined_within(
+    routes: &Routes,
     work: &mut [u16],
-    lengths: &[u16],
-    stops: &[u16],
-    a: usize,
-    i: usize,
-    b: usize,
-    j: usize,
+    a: Position,
+    b: Position,
     vehicle: Vehicle,
-    demand: &[i32],
+    demand: &Demand,
 ) -> bool
-    requires demands { Demands (length demand.now) demand.now }
-    requires fact { (a ≡ b → ⊥) × HasPosition (split lengths.now stops.now) a i × HasPosition (split lengths.now stops.now) b j
-        × (length stops.now ≤ length work.old) × Lent lengths.now stops.now × Planned (length demand.now) (split lengths.now stops.now) }
-    ensures { result ≡ fits (of_demand demand.now vehicle) (load demand.now (joined a i b j (split lengths.now stops.now))) }
+    requires other { a.route ≡ b.route → ⊥ }
+    requires first { HasPosition (plan_of routes.now) a.route a.pos }
+    requires second { HasPosition (plan_of routes.now) b.route b.pos }
+    requires has_room { length routes.now.stops.now ≤ length work.old }
+    requires planned { Planned (length demand.now.cells.now) (plan_of routes.now) }
+    ensures { result ≡ fits (of_demand demand.now.cells.now vehicle)
+        (load demand.now.cells.now (joined a.route a.pos b.route b.pos (plan_of routes.now))) }
 {
-    let m = join(work, lengths, stops, a, i, b, j);
-    within_capacity(&work[0..m], demand, vehicle)
+    let m = join(routes, work, a, b);
+    within_capacity(&work[..m], demand, vehicle)
 }

@@ -1,61 +1,51 @@
 -- Laws of specs/Bound, each from the facts that the code has where it needs it. Assumes nothing.
-use Rattle.std.specs.Prelude.{Option}
-use Prim.Native.Nat.{ℕ, zero, suc, ◌+◌, ◌*◌, ◌<◌, ◌≤◌}
+use Prim.Native.Nat.{ℕ, zero, suc, ◌+◌, ◌*◌, ◌≤◌}
 use native.Mathlib.Nat.{suc-mul, zero-mul}
 use native.Mathlib.Omega.{arith}
 use mathlib.Core.Path.{◌≡◌, refl, sym, ap, ◌∙◌}
 use mathlib.Core.List.{List, [], ◌∷◌, ◌++◌}
-use mathlib.Core.Logic.{⊎_elim}
 use lib.ListN.{length, get_or, take}
 use lib.Seq.{take-suc, take-length}
 use lib.Ieee.{Float, nan}
+use Rattle.std.specs.List.{fold, range_with_len}
+use Rattle.std.specs.Iterator.{ActsAsOnTwo, FoldsItems}
+use Rattle.std.proofs.iter.Yields.{nat_range_steps}
+use Rattle.std.proofs.lemmas.Fn.{fold_over}
+use Rattle.std.proofs.lemmas.Iterator.{YieldsList-from_range}
+use Rattle.std.proofs.lemmas.List.Sums.{fold_push}
+use denote.Param.Members.{Mut}
 use borrow.Author.Tests.{eq-eqb, ne_eqb}
 use Rattle.route_worth.specs.floats.Binary64.{0f, max}
-use Rattle.route_worth.specs.laws.Loops.{loop, foldl, loop_more}
-use Rattle.route_worth.specs.models.declared.customer.TimeWindow.{TimeWindow}
-use Rattle.route_worth.specs.models.Customer.{window_at, penalty_at}
+use Rattle.route_worth.specs.laws.Loops.{loop, foldl}
 use Rattle.route_worth.specs.models.Problem.{DistanceMatrix, Square}
 use Rattle.route_worth.specs.distance.Matrix.{largest}
-use Rattle.lateness_bound.specs.Bound.{with_window, with_penalty, later_window, dearer_penalty, latest_window, dearest_penalty, slowest}
+use Rattle.lateness_bound.specs.Bound.{slowest}
 
--- ---- the loops over the places: the state before place c is that of the counted loop
+-- ---- the walks over the places: a fold over the numbers below n is the counted loop
 
-pub record Before (f : ℕ → Float → Float) (flags : List ℕ) (most : Float) (c : ℕ) : Type 0 where
-  pub within : c ≤ length flags
-  pub same : most ≡ loop c f 0f
+numbers_push : (a n j : ℕ) → a + n ≡ j → range_with_len a (suc n) ≡ range_with_len a n ++ (j ∷ [])
+numbers_push a zero j e = ap (λ (i : ℕ). i ∷ []) (omega (arith, e))
+numbers_push a (suc n) j e = ap (λ (xs : List ℕ). a ∷ xs) (numbers_push (a + 1) n j (omega (arith, e)))
 
-module _ (f : ℕ → Float → Float) (flags : List ℕ) where
-  pub before_none : Before f flags 0f 0
+module _ (f : ℕ → Float → Float) where
+  abbrev turn : Float → ℕ → Float
+  turn most c = f c most
+
+  counted : (n : ℕ) → fold turn 0f (range_with_len 0 n) ≡ loop n f 0f
   unfolding loop
-  before_none = record { within = omega arith; same = refl }
+  counted zero = refl
+  counted (suc n) = ap (fold turn 0f) (numbers_push 0 n n (omega arith)) ∙ fold_push turn 0f (range_with_len 0 n) n ∙ ap (f n) (counted n)
 
-  more : (most next : Float) (c : ℕ) → Before f flags most c → c < length flags → next ≡ f c most → Before f flags next (c + 1)
-  more most next c b h e = record { within = omega arith; same = loop_more f 0f c most next b.same e }
-
-  end : (most : Float) (c : ℕ) → Before f flags most c → length flags ≤ c → most ≡ loop (length flags) f 0f
-  end most c b h = let e : c ≡ length flags = omega (arith, b.within) in b.same ∙ ap (λ (k : ℕ). loop k f 0f) e
-
-module _ (ready due : List Float) (flags : List ℕ) (most : Float) (c : ℕ) where
-  pub window_more : (w : Option TimeWindow) (next : Float) → Before (later_window ready due flags) flags most c → c < length flags
-      → w ≡ window_at ready due flags c → next ≡ with_window most w → Before (later_window ready due flags) flags next (c + 1)
-  unfolding later_window
-  window_more w next b h ew e = more (later_window ready due flags) flags most next c b h (e ∙ ap (with_window most) ew)
-
-  pub window_end : Before (later_window ready due flags) flags most c → length flags ≤ c → most ≡ latest_window ready due flags
-  unfolding latest_window
-  window_end b h = end (later_window ready due flags) flags most c b h
-
-module _ (penalty : List Float) (flags : List ℕ) (most : Float) (c : ℕ) where
-  pub penalty_more : (p : Option Float) (next : Float) → Before (dearer_penalty penalty flags) flags most c → c < length flags
-      → p ≡ penalty_at penalty flags c → next ≡ with_penalty most p → Before (dearer_penalty penalty flags) flags next (c + 1)
-  unfolding dearer_penalty
-  penalty_more p next b h ep e = more (dearer_penalty penalty flags) flags most next c b h (e ∙ ap (with_penalty most) ep)
-
-  pub penalty_end : Before (dearer_penalty penalty flags) flags most c → length flags ≤ c → most ≡ dearest_penalty penalty flags
-  unfolding dearest_penalty
-  penalty_end b h = end (dearer_penalty penalty flags) flags most c b h
-
-pub ruleset place_laws = (before_none, window_more, window_end, penalty_more, penalty_end)
+  -- a closure that does at each number what f does, folded over the numbers below n
+  module _ {F : Type 0} {g : Mut F (Float × (ℕ × Unit {0})) Float} {call : F} where
+    pub walked : {m n : ℕ} {r : Float} → m ≡ n → ActsAsOnTwo g call turn
+        → FoldsItems nat_range_steps g (record { start = 0; end = m }) call 0f r → r ≡ loop n f 0f
+    walked {m} {n} {r} e acts ran =
+        fold_over nat_range_steps (λ c. c) g (λ xs most. most ≡ fold turn 0f xs) call
+        (λ xs a c b call' j k. let one = acts a c b call' k in (one.1 ∙ ap (f c) j ∙ sym (fold_push turn 0f xs c), one.0))
+        (record { start = 0; end = m }) (range_with_len 0 m) 0f r (YieldsList-from_range 0 m m refl (omega arith)).runs refl ran
+        ∙ counted m
+        ∙ ap (λ (k : ℕ). loop k f 0f) e
 
 -- ---- the slowest travel: rows of n cells, one after the other, are the cells in their order, so the two loops are one fold
 

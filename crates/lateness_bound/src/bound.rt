@@ -25,29 +25,19 @@ fn with_penalty(most: f64, penalty: Option<f64>) -> f64
 }
 
 // The latest end of any window, 0 where there is none.
-#[tactic(auto, using(crate::proofs::BoundLaws::place_laws))]
 fn latest_window(places: &Customers) -> f64
     requires { (length places.now.ready ≡ length places.now.flags) × (length places.now.due ≡ length places.now.flags) }
     ensures { result ≡ latest_window places.now.ready places.now.due places.now.flags }
 {
-    let mut most = 0.0;
-    for c in 0..places.len() {
-        most = with_window(most, window_at(c, places));
-    }
-    most
+    (0..places.len()).fold(0.0, |most, c| with_window(most, window_at(c, places)))
 }
 
 // The dearest penalty of any place, with a window or without, 0 where there is none.
-#[tactic(auto, using(crate::proofs::BoundLaws::place_laws))]
 fn dearest_penalty(places: &Customers) -> f64
     requires { length places.now.penalty ≡ length places.now.flags }
     ensures { result ≡ dearest_penalty places.now.penalty places.now.flags }
 {
-    let mut most = 0.0;
-    for c in 0..places.len() {
-        most = with_penalty(most, penalty_at(c, places));
-    }
-    most
+    (0..places.len()).fold(0.0, |most, c| with_penalty(most, penalty_at(c, places)))
 }
 
 // The slowest travel between any two places, a place and itself included.

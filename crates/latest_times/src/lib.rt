@@ -11,9 +11,9 @@ use quick_fit::{TimeWindow, customer_at, min, travel_time};
 
 // Of the crates below, passed on to those above.
 pub use quick_fit::{
-    Counts, DistanceMatrix, Fleet, Insertion, Instance, LocalSearchNext, Network, Pick, Reduction,
-    Vehicle, checked, constrained, copy_part, feasible, has_room, infinity, insertion_cost, leave,
-    may_fit, next_pick, offset, put_in, rounds, take_out, trial_ok, within_capacity,
+    Counts, Demand, DistanceMatrix, Fleet, Insertion, Instance, LocalSearchNext, Network, Pick,
+    Reduction, Vehicle, checked, constrained, copy_part, feasible, has_room, infinity,
+    insertion_cost, leave, may_fit, next_pick, rounds, routes, trial_ok, within_capacity,
 };
 
 // When service may start at the earliest, where there is a window.

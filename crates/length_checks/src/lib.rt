@@ -16,11 +16,7 @@ fn total(lengths: &[u16]) -> usize
     requires { length lengths.now ≤ 256 }
     ensures { result ≡ total lengths.now }
 {
-    let mut sum = 0;
-    for length in lengths {
-        sum += *length as usize;
-    }
-    sum
+    lengths.iter().map(|length| *length as usize).sum()
 }
 
 // Whether there are over 256 lengths, or they do not sum to the number of stops.

@@ -5,7 +5,9 @@ ghost use Rattle.listing_numbers.specs.listing.Listing.{stops as Listing·stops,
 ghost use Rattle.listing_numbers.specs.Put.{HasRoom, Puts};
 
 // Of the crates below, passed on to those above.
-pub use listing_numbers::{Page, Problem, Vehicle, load, route_cost_route_distance};
+pub use listing_numbers::{
+    Demand, Page, Problem, Vehicle, load, route_cost_route_distance, routes,
+};
 
 // Each stop behind a space.
 fn put_stops(page: &mut Page<'_>, stops: &[u16])

@@ -38,12 +38,12 @@ pub fn put_last_line(page: &mut Page<'_>, counts: Counts, given: u64, left: u64)
     put_line(page, b" left ", left);
 }
 
-// The line of a refusal, from a position of a slice on: the position behind it.
-pub fn put_refusal(out: &mut [u8], at: usize, number: u64) -> usize
-    requires { Room out.old at (refusal_line number) }
-    ensures { Written out.old at (refusal_line number) out.new result }
+// The line of a refusal, from the start of a slice on: the position behind it.
+pub fn put_refusal(out: &mut [u8], number: u64) -> usize
+    requires { Room out.old 0 (refusal_line number) }
+    ensures { Written out.old 0 (refusal_line number) out.new result }
 {
-    let mut page = Page { out, at };
+    let mut page = Page { out, at: 0 };
     put_line(&mut page, b"refused ", number);
     page.at
 }

@@ -9,8 +9,9 @@ ghost use Rattle.route_load.specs.Feasible.{checked, feasible};
 ghost use Rattle.route_load.specs.evaluation.Given.{of_instance, of_fleet};
 
 use route_load::{
-    Fleet, Instance, Problem, RouteLimits, Vehicle, evaluation_route_feasible as route_feasible,
-    route_checks_needed, trial_feasible, within_capacity,
+    Demand, Fleet, Instance, Problem, RouteLimits, Vehicle,
+    evaluation_route_feasible as route_feasible, has_soft_windows, route_checks_needed,
+    trial_feasible, within_capacity,
 };
 
 // Whether the route check is needed. A search asks this once.
@@ -30,8 +31,11 @@ pub fn instance<'a>(problem: &Problem<'a>) -> Instance<'a>
             net: problem.network(),
             vehicle: problem.vehicle,
             needed: constrained(problem.places.flags(), problem.vehicle),
+            soft: has_soft_windows(problem.places.flags()),
         },
-        demand: problem.demand,
+        demand: Demand {
+            cells: problem.demand,
+        },
     }
 }
 
@@ -74,7 +78,7 @@ pub fn feasible(route: &[u16], given: &Instance) -> bool
     requires { Stops given.now.fleet.net.roads.size route.now }
     ensures { result ≡ feasible (of_instance given.now) route.now }
 {
-    if within_capacity(route, given.demand, given.fleet.vehicle) {
+    if within_capacity(route, &given.demand, given.fleet.vehicle) {
         return checked(route, &given.fleet);
     }
     false

@@ -7,8 +7,9 @@ pub mod rounds;
 
 // Of the crates below, passed on to those above.
 pub use route_load::{
-    Customer, DistanceMatrix, Fleet, Insertion, Instance, Network, Problem, RouteEval, TimeWindow,
-    Vehicle, abs, break_schedule_schedule, customer_at, evaluation_check, get, has_room, infinity,
-    load, max, min, route_cost_gain_floor, route_cost_route_distance, travel_time, within_capacity,
+    Customer, Demand, DistanceMatrix, Fleet, Insertion, Instance, Network, Problem, RouteEval,
+    TimeWindow, Vehicle, abs, break_schedule_schedule, customer_at, evaluation_check, get,
+    has_room, infinity, load, max, min, route_cost_gain_floor, route_cost_route_distance,
+    travel_time, within_capacity,
 };
-pub use route_order::{Pick, copy_part, cut, insert_at, next_pick, offset, put_in, take_out};
+pub use route_order::{Pick, copy_part, cut, insert_at, next_pick, routes};

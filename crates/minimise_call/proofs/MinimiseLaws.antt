@@ -1,12 +1,12 @@
 -- minimise: what a refused call leaves, what an accepted one may rely on and what it answers. Assumes nothing.
-use Prim.Native.Nat.{ℕ}
+use Prim.Native.Nat.{ℕ, ◌≤◌}
 use mathlib.Core.Path.{◌≡◌, sym, ap}
 use Rattle.std.specs.Prelude.{None, Some}
 use mathlib.Core.List.{List}
 use native.Mathlib.Omega.{arith}
 use lib.ListN.{length}
 use lib.Ieee.{Float}
-use Rattle.route_minimization.specs.models.Problem.{Problem}
+use Rattle.route_minimization.specs.models.Problem.{Admitted, Problem}
 use Rattle.route_minimization.specs.plan.Plan.{Slices}
 use Rattle.route_minimization.specs.local_search.declared.rounds.Reduction.{Reduction}
 use Rattle.route_minimization.specs.local_search.Search.{Answers}
@@ -27,21 +27,25 @@ module _ (p : Problem) (s : Slices) (tape : List ℕ) (limit : ℕ) (w : Work) w
   minimise_refused n clock e = reply_refused n _ s _ e
 
   module _ (e : None ≡ refusal (minimise_inputs p s tape limit w)) where
-    pub minimise_searches : (work : List ℕ) (cells : List Float) → w ≡ work_of (length work) (length cells)
-        → Searching p tape limit s.lengths s.stops work cells
-    minimise_searches work cells f =
-        let a = minimise_accepted p s w tape limit (sym e) in
-        record {
-          admitted = a.0.admitted;
-          drawable = a.1.words;
-          limited = a.1.steps;
-          whole = a.0.sum;
-          few = a.0.few;
-          routes_few = a.0.routes;
-          planned = a.0.planned;
-          work_room = omega (arith, a.1.enough.u16_there, ap (λ (x : Work). x.u16_cells) f);
-          cells_room = omega (arith, a.1.enough.f64_there, ap (λ (x : Work). x.f64_cells) f);
-        }
+    pub minimise_admitted : Admitted p
+    minimise_admitted = (minimise_accepted p s w tape limit (sym e)).0.admitted
+
+    module _ (work : List ℕ) (cells : List Float) (f : w ≡ work_of (length work) (length cells)) where
+      pub minimise_times : 512 ≤ length cells
+      minimise_times = omega (arith, (minimise_accepted p s w tape limit (sym e)).1.enough.f64_there, ap (λ (x : Work). x.f64_cells) f)
+
+      pub minimise_searches : Searching p tape limit s.lengths s.stops work
+      minimise_searches =
+          let a = minimise_accepted p s w tape limit (sym e) in
+          record {
+            drawable = a.1.words;
+            limited = a.1.steps;
+            whole = a.0.sum;
+            few = a.0.few;
+            routes_few = a.0.routes;
+            planned = a.0.planned;
+            work_room = omega (arith, a.1.enough.u16_there, ap (λ (x : Work). x.u16_cells) f);
+          }
 
     pub minimise_answers : (clock : ℕ) (d : Reduction) (t : Slices)
         → Answers (minimize_routes (allowance limit clock tape) p (plan_in s)) (length s.lengths) d.routes d.counts t.lengths t.stops

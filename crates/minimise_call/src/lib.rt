@@ -3,32 +3,30 @@
 
 ghost use Rattle.std.specs.Prelude.{◌≡◌, length};
 ghost use Rattle.route_minimization.specs.models.Lent.{of_problem};
-ghost use Rattle.route_minimization.specs.ejection_pool.Running.{allowance};
+ghost use Rattle.route_minimization.specs.ejection_pool.Running.{allowed};
 ghost use Rattle.planner.specs.Calls.{public_minimise};
 ghost use Rattle.planner.specs.Told.{reply_of, slices_of, work_of, FreeIfAnswered};
 
 use planner::instance;
 use refusals::calls::minimise_refusal;
-use route_minimization::minimize_routes;
+use route_minimization::{Times, minimize_routes};
 
 // Of the crates below, passed on to those above.
 pub use planner::{Reduction, Refusal};
-pub use route_minimization::{Customers, DistanceMatrix, Problem, Vehicle};
+pub use route_minimization::{Allowance, Customers, DistanceMatrix, Problem, Vehicle};
 
-// Fewer routes by an ejection pool, with at most `limit` steps in an attempt, draws from the tape, and a clock that stops at the asking after the first
-// `clock`.
+// Fewer routes by an ejection pool, with at most as many steps in an attempt as are allowed, draws from the tape, and a clock that stops at the asking after
+// the first `clock`.
 pub fn minimise(
     lengths: &mut [u16],
     stops: &mut [u16],
     work: &mut [u16],
     cells: &mut [f64],
-    tape: &[u64],
-    limit: u64,
-    clock: u64,
+    allowance: Allowance,
     problem: &Problem,
 ) -> Result<Reduction, Refusal>
     ensures reply { reply_of result lengths.new stops.new ≡ public_minimise (of_problem problem.now) (slices_of lengths.old stops.old)
-        (allowance limit clock tape.now) (work_of (length work.old) (length cells.old)) }
+        (allowed allowance.entry) (work_of (length work.old) (length cells.old)) }
     ensures work { FreeIfAnswered result work.old work.new }
     ensures cells { FreeIfAnswered result cells.old cells.new }
 {
@@ -36,20 +34,13 @@ pub fn minimise(
         lengths,
         stops,
         problem,
-        tape,
-        limit,
+        allowance.tape,
+        allowance.limit,
         work.len(),
         cells.len(),
     )?; // before the first draw
-    let done = minimize_routes(
-        lengths,
-        stops,
-        work,
-        cells,
-        tape,
-        limit as usize,
-        clock,
-        &instance(problem),
-    );
+    let mut times = Times { cells };
+    let given = instance(problem);
+    let done = minimize_routes(lengths, stops, work, &mut times, allowance, &given);
     Ok(done)
 }

@@ -4,6 +4,7 @@
 
 // Of the crates below, passed on to those above.
 pub use pool_cost::{
-    Counts, Customers, DistanceMatrix, Instance, LocalSearchNext, Pick, Problem, Reduction,
-    Vehicle, constrained, copy_part, has_soft_windows, next_pick, plan_cost, rounds,
+    Allowance, Counts, Customers, Demand, DistanceMatrix, Instance, LocalSearchNext, Pick, Problem,
+    Reduction, Vehicle, constrained, copy_part, has_soft_windows, next_pick, plan_cost, rounds,
+    routes,
 };

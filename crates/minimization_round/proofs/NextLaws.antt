@@ -8,6 +8,8 @@ use lib.Ieee.{Float}
 use Rattle.minimization.specs.models.Problem.{Problem, of_roads}
 use Rattle.minimization.specs.route_order.declared.Pick.{Pick}
 use Rattle.minimization.specs.plan.Plan.{split, total, padded, drop_zero}
+use Rattle.minimization.specs.plan.Given.{plan_of, Keeps}
+use Rattle.minimization.specs.plan.declared.routes.Routes.{Routes}
 use Rattle.minimization.specs.route_order.Order.{next_pick, following}
 use Rattle.minimization.specs.local_search.declared.rounds.Counts.{Counts}
 use Rattle.minimization.specs.local_search.Planned.{Planned}
@@ -34,32 +36,34 @@ module _ (ls L : List ℕ) (k : ℕ) (e : L ≡ padded (length ls) (drop_zero ls
 
 -- ---- the next attempt
 
-module _ (ls : List ℕ) (last x : Option Pick) (e : x ≡ next_pick ls last) (pick : Pick) (h : x ≡ Some pick) (given : Allowance) (p : Problem) (s : List ℕ) (n : Counts)
-    (a : Result Counts Counts) (L S : List ℕ) (t : tried a (split (but_last L) S) ≡ attempt given p (split ls s) pick.route n) (held : Leaves a ls s L S)
+module _ (old : Routes) (last x : Option Pick) (e : x ≡ next_pick old.lengths.now last) (pick : Pick) (h : x ≡ Some pick) (given : Allowance) (p : Problem) (n : Counts)
+    (a : Result Counts Counts) (new : Routes)
+    (t : tried a (split (but_last new.lengths.now) new.stops.now) ≡ attempt given p (plan_of old) pick.route n) (held : Leaves a old new)
     (m : Counts) (d : n.draws ≤ 500 * n.steps) where
-  told : (b : Result Counts Counts) → a ≡ b → tried b (split (but_last L) S) ≡ attempt given p (split ls s) pick.route n
-  told b f = ap (λ (b : Result Counts Counts). tried b (split (but_last L) S)) (sym f) ∙ t
+  told : (b : Result Counts Counts) → a ≡ b → tried b (split (but_last new.lengths.now) new.stops.now) ≡ attempt given p (plan_of old) pick.route n
+  told b f = ap (λ (b : Result Counts Counts). tried b (split (but_last new.lengths.now) new.stops.now)) (sym f) ∙ t
 
-  leaves : (b : Result Counts Counts) → a ≡ b → Leaves b ls s L S
-  leaves b f = subst (λ (b : Result Counts Counts). Leaves b ls s L S) f held
+  leaves : (b : Result Counts Counts) → a ≡ b → Leaves b old new
+  leaves b f = subst (λ (b : Result Counts Counts). Leaves b old new) f held
 
-  pub pool_kept : a ≡ Err m
-      → (try_each (attempt given p) (split ls s) (following ls (Some pick)) m ≡ try_each (attempt given p) (split ls s) (following ls last) n)
-      × Refused given.limit ls s last n pick m L S
-  pool_kept f =
-      let same = leaves (Err m) f in
-      let q = told (Err m) f in
-      let g = attempt_reduces given p in (
-        next_kept ls last x e pick h (attempt given p) given.limit g s n m L S d q,
-        next_refused ls last x e pick h (attempt given p) given.limit g s n m L S d q same.0 same.1,
-      )
+  module _ (f : a ≡ Err m) where
+    pub kept_round : try_each (attempt given p) (plan_of old) (following old.lengths.now (Some pick)) m ≡ try_each (attempt given p) (plan_of old) (following old.lengths.now last) n
+    kept_round =
+        next_kept old.lengths.now last x e pick h (attempt given p) given.limit (attempt_reduces given p) old.stops.now n m new.lengths.now new.stops.now d (told (Err m) f)
 
-  pub pool_accepted : a ≡ Ok m → total ls ≡ length s → length S ≡ length s → Planned p.roads.size (split ls s)
-      → (◌≡◌ {A = Tried} (record { plan = Some (split (but_last L) S); counts = m }) (try_each (attempt given p) (split ls s) (following ls last) n))
-      × Taken given.limit p.roads.size ls last n m L S
-  pool_accepted f whole long planned =
-      let q = told (Ok m) f in
-      let g = attempt_reduces given p in (
-        next_accepted ls last x e pick h (attempt given p) given.limit g s n m L S d q,
-        next_taken ls last x e pick h (attempt given p) given.limit g s n m L S d q p.roads.size whole long planned (leaves (Ok m) f),
-      )
+    pub kept_held : Refused given.limit old.lengths.now old.stops.now last n pick m new.lengths.now new.stops.now
+    kept_held =
+        let same = leaves (Err m) f in
+        next_refused old.lengths.now last x e pick h (attempt given p) given.limit (attempt_reduces given p) old.stops.now n m new.lengths.now new.stops.now d (told (Err m) f) same.0 same.1
+
+  module _ (f : a ≡ Ok m) where
+    pub accepted_round : ◌≡◌ {A = Tried} (record { plan = Some (split (but_last new.lengths.now) new.stops.now); counts = m })
+        (try_each (attempt given p) (plan_of old) (following old.lengths.now last) n)
+    accepted_round =
+        next_accepted old.lengths.now last x e pick h (attempt given p) given.limit (attempt_reduces given p) old.stops.now n m new.lengths.now new.stops.now d (told (Ok m) f)
+
+    pub accepted_held : total old.lengths.now ≡ length old.stops.now → Keeps old new → Planned p.roads.size (plan_of old)
+        → Taken given.limit p.roads.size old.lengths.now last n m new.lengths.now new.stops.now
+    accepted_held whole kept planned =
+        next_taken old.lengths.now last x e pick h (attempt given p) given.limit (attempt_reduces given p) old.stops.now n m new.lengths.now new.stops.now d (told (Ok m) f)
+        p.roads.size whole kept.room planned (leaves (Ok m) f)

@@ -2,27 +2,30 @@
 // (local_search/route_minimization.rs, `for r in order`).
 #![tactic(auto)]
 
-ghost use Rattle.std.specs.Prelude.{◌≡◌, ◌*◌, ◌<◌, ◌≤◌, length, take};
+ghost use Rattle.std.specs.Prelude.{◌≡◌, ◌*◌, ◌<◌, ◌≤◌, length};
 ghost use Rattle.minimization.specs.models.Problem.{of_roads};
 ghost use Rattle.minimization.specs.plan.Plan.{Lent, split, padded, drop_zero};
-ghost use Rattle.minimization.specs.route_order.Order.{following};
+ghost use Rattle.minimization.specs.plan.Given.{plan_of, Keeps};
+ghost use Rattle.minimization.specs.route_order.Order.{next_pick, following};
 ghost use Rattle.minimization.specs.local_search.Planned.{Planned};
 ghost use Rattle.minimization.specs.route_cost.Route.{cost};
 ghost use Rattle.minimization.specs.local_search.Rounds.{try_each};
 ghost use Rattle.minimization.specs.local_search.Search.{but_last, tried_next, NextLeaves};
 ghost use Rattle.minimization.specs.pool_cost.Attempt.{attempt};
-ghost use Rattle.minimization.specs.ejection_pool.Running.{allowance};
+ghost use Rattle.minimization.specs.ejection_pool.Running.{allowed};
 ghost use Rattle.route_attempt.specs.route_without.Attempting.{Attempting};
 ghost use Rattle.minimization.specs.evaluation.Given.{of_instance};
 
+use minimization::routes::Routes;
 use minimization::{LocalSearchNext as Next, next_pick, plan_cost};
 use route_attempt::{attempt, drop_empty};
 
 // Of the crates below, passed on to those above.
 pub use minimization::{
-    Counts, Customers, DistanceMatrix, Instance, LocalSearchNext, Pick, Problem, Reduction,
-    Vehicle, constrained, has_soft_windows, rounds,
+    Allowance, Counts, Customers, Demand, DistanceMatrix, Instance, LocalSearchNext, Pick, Problem,
+    Reduction, Vehicle, constrained, has_soft_windows, rounds, routes,
 };
+pub use route_attempt::Times;
 
 // What a round starts with: how many routes there are, and what they cost.
 #[derive(Clone, Copy)]
@@ -31,62 +34,56 @@ pub struct Round {
     pub before: f64,
 }
 
-// The cost of the first `count` routes.
-fn cost_of(
-    lengths: &[u16],
-    stops: &[u16],
-    count: usize,
-    vehicle: Vehicle,
-    roads: &DistanceMatrix,
-) -> f64
-    requires n_bound { (roads.now.size ≤ 256) × (length roads.now.distances ≡ roads.now.size * roads.now.size) × (vehicle.depot_id < roads.now.size) }
-    requires count_in_bounds { (count ≤ length lengths.now) × Lent (take count lengths.now) stops.now × Planned roads.now.size
-        (split (take count lengths.now) stops.now) }
-    ensures { result ≡ cost (of_roads roads.now vehicle) (split (take count lengths.now) stops.now) }
-{
-    plan_cost(&lengths[..count], stops, vehicle, roads)
-}
-
 // Empty routes are dropped, and the others are counted and their cost summed.
 pub fn begin(lengths: &mut [u16], stops: &[u16], vehicle: Vehicle, roads: &DistanceMatrix) -> Round
-    requires n_bound { (roads.now.size ≤ 256) × (length roads.now.distances ≡ roads.now.size * roads.now.size) × (vehicle.depot_id < roads.now.size) }
-    requires lent { Lent lengths.old stops.now × Planned roads.now.size (split lengths.old stops.now) }
+    requires n_bound { (roads.now.size ≤ 256) × (length roads.now.distances ≡ roads.now.size * roads.now.size) }
+    requires depot_id_bound { vehicle.depot_id < roads.now.size }
+    requires lent { Lent lengths.old stops.now }
+    requires planned { Planned roads.now.size (split lengths.old stops.now) }
     ensures rest { lengths.new ≡ padded (length lengths.old) (drop_zero lengths.old) }
     ensures count { result.count ≡ length (drop_zero lengths.old) }
     ensures cost { result.before ≡ cost (of_roads roads.now vehicle) (split (drop_zero lengths.old) stops.now) }
 {
     let count = drop_empty(lengths);
-    let before = cost_of(lengths, stops, count, vehicle, roads);
+    let before = plan_cost(&lengths[..count], stops, vehicle, roads);
     Round { count, before }
+}
+
+// The route that comes next after the last pick.
+fn pick_after(routes: &Routes, last: Option<Pick>) -> Option<Pick>
+    ensures { result ≡ next_pick routes.now.lengths.now last }
+{
+    next_pick(routes.lengths, last)
 }
 
 // The attempt at the route that comes next after the last pick, in a plan that costs `before`.
 pub fn try_next(
-    lengths: &mut [u16],
-    stops: &mut [u16],
+    routes: &mut Routes,
     work: &mut [u16],
-    cells: &mut [f64],
-    tape: &[u64],
+    times: &mut Times,
+    allowance: Allowance,
     last: Option<Pick>,
     before: f64,
-    limit: usize,
-    clock: u64,
     counted: Counts,
     given: &Instance,
 ) -> Next
-    requires attempting { Attempting (of_instance given.now) tape.now given.now.fleet.needed limit lengths.old stops.old work.old cells.old counted }
-    requires before_value { (before ≡ cost (of_instance given.now) (split lengths.old stops.old)) × (length lengths.old ≤ 256)
-        × (767 ≤ length work.old) × (counted.draws ≤ 500 * counted.steps) }
-    ensures round { tried_next (attempt (allowance limit clock tape.now) (of_instance given.now)) (split lengths.old stops.old) lengths.old counted
-        result (split (but_last lengths.new) stops.new) ≡ try_each (attempt (allowance limit clock tape.now) (of_instance given.now))
-        (split lengths.old stops.old) (following lengths.old last) counted }
-    ensures held { NextLeaves limit given.now.fleet.net.roads.size lengths.old stops.old last counted result lengths.new stops.new }
+    requires attempting { Attempting (of_instance given.now) allowance.tape.now allowance.limit routes.old work.old counted }
+    requires before_value { before ≡ cost (of_instance given.now) (plan_of routes.old) }
+    requires few { length routes.old.lengths.now ≤ 256 }
+    requires has_room { 767 ≤ length work.old }
+    requires drawn { counted.draws ≤ 500 * counted.steps }
+    ensures round { tried_next (attempt (allowed allowance.entry) (of_instance given.now)) (plan_of routes.old) routes.old.lengths.now counted
+        result (split (but_last routes.new.lengths.now) routes.new.stops.now) ≡ try_each (attempt (allowed allowance.entry) (of_instance given.now))
+        (plan_of routes.old) (following routes.old.lengths.now last) counted }
+    ensures held { NextLeaves allowance.entry.limit given.now.fleet.net.roads.size routes.old.lengths.now routes.old.stops.now last counted result
+        routes.new.lengths.now routes.new.stops.now }
+    ensures kept { Keeps routes.old routes.new }
 {
-    let Some(pick) = next_pick(lengths, last) else {
+    let Some(pick) = pick_after(routes, last) else {
         return Next::End;
     };
     let tried = attempt(
-        lengths, stops, work, cells, tape, pick.route, before, limit, clock, counted, given,
+        routes, work, times, allowance, pick.route, before, counted, given,
     );
     match tried {
         Err(counts) => Next::Kept(pick, counts),

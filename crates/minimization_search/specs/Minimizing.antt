@@ -1,12 +1,11 @@
 -- What the search asks for. Assumes nothing.
-use Rattle.std.specs.Prelude.{ℕ, ◌≤◌, ◌<◌, ◌≡◌, List, length, Float}
-use Rattle.minimization_round.specs.models.Problem.{Problem, Admitted}
+use Rattle.std.specs.Prelude.{ℕ, ◌≤◌, ◌<◌, ◌≡◌, List, length}
+use Rattle.minimization_round.specs.models.Problem.{Problem}
 use Rattle.minimization_round.specs.plan.Plan.{split, total}
 use Rattle.minimization_round.specs.local_search.Planned.{Planned}
 
 -- a search over a plan that fills both slices
-pub record Searching (p : Problem) (tape : List ℕ) (limit : ℕ) (lengths stops work : List ℕ) (cells : List Float) : Type 0 where
-  pub admitted : Admitted p
+pub record Searching (p : Problem) (tape : List ℕ) (limit : ℕ) (lengths stops work : List ℕ) : Type 0 where
   pub drawable : 0 < length tape
   pub limited : limit ≤ 65535
   pub whole : total lengths ≡ length stops
@@ -14,4 +13,3 @@ pub record Searching (p : Problem) (tape : List ℕ) (limit : ℕ) (lengths stop
   pub routes_few : length lengths ≤ 256
   pub planned : Planned p.roads.size (split lengths stops)
   pub work_room : 767 ≤ length work
-  pub cells_room : 512 ≤ length cells

@@ -7,17 +7,20 @@ use mathlib.Core.Bool.{true, false}
 use mathlib.Core.List.{List, [], ◌∷◌}
 use lib.ListN.{length, get_or}
 use Rattle.drawn_moves.specs.models.Problem.{Problem}
-use Rattle.drawn_moves.specs.plan.Plan.{Holds, Lent, split, route, total, non_empty}
+use Rattle.drawn_moves.specs.plan.Plan.{route, total, non_empty}
+use Rattle.drawn_moves.specs.plan.Given.{plan_of, Becomes}
+use Rattle.drawn_moves.specs.plan.declared.routes.Routes.{Routes}
 use Rattle.drawn_moves.specs.plan.Slices.{length_split, length_route}
-use Rattle.drawn_moves.specs.perturbation.Perturb.{both_non_empty, try_move, move_between}
-use Rattle.drawn_moves.specs.perturbation.Parts.{Pair}
+use Rattle.drawn_moves.specs.perturbation.Perturb.{both_non_empty, try_move, Drawn, move_between}
+use Rattle.drawn_moves.specs.perturbation.Parts.{Pair, drawn}
+use Rattle.drawn_moves.specs.perturbation.declared.draws.Draws.{Draws}
 use Rattle.drawn_moves.specs.perturbation.Moves.{Between}
 
-module _ (ls s : List ℕ) (a b : ℕ) (w : Pair (split ls s) a b) where
-  pub pair_first : a < length ls
+module _ (r : Routes) (a b : ℕ) (w : Pair (plan_of r) a b) where
+  pub pair_first : a < length r.lengths.now
   pair_first = rw length_split at w.first_in
 
-  pub pair_second : b < length ls
+  pub pair_second : b < length r.lengths.now
   pair_second = rw length_split at w.second_in
 
 has_none : (r : List ℕ) → length r ≡ 0 → non_empty r ≡ false
@@ -30,30 +33,55 @@ unfolding non_empty
 has_some [] e = absurd (e refl)
 has_some (c ∷ r) e = refl
 
-module _ (ls s : List ℕ) (a b : ℕ) (l : Lent ls s) where
-  pub first_none : get_or ls a 0 ≡ 0 → both_non_empty a b (split ls s) ≡ false
-  first_none e = rw (has_none (route a (split ls s)) (length_route ls s l.inside a ∙ e))
+module _ (r : Routes) (k : ℕ) where
+  -- route k, by its length
+  none_there : get_or r.lengths.now k 0 ≡ 0 → non_empty (route k (plan_of r)) ≡ false
+  none_there e = has_none (route k (plan_of r)) (length_route r.lengths.now r.stops.now r.lent.inside k ∙ e)
 
-  pub second_none : (get_or ls a 0 ≡ 0 → ⊥) → get_or ls b 0 ≡ 0 → both_non_empty a b (split ls s) ≡ false
-  second_none f e =
-      rw (has_some (route a (split ls s)) (λ z. f (sym (length_route ls s l.inside a) ∙ z)), has_none (route b (split ls s)) (length_route ls s l.inside b ∙ e))
+  some_there : (get_or r.lengths.now k 0 ≡ 0 → ⊥) → non_empty (route k (plan_of r)) ≡ true
+  some_there f = has_some (route k (plan_of r)) (λ z. f (sym (length_route r.lengths.now r.stops.now r.lent.inside k) ∙ z))
 
-  pub between : Pair (split ls s) a b → (get_or ls a 0 ≡ 0 → ⊥) → (get_or ls b 0 ≡ 0 → ⊥) → Between (split ls s) a b
+module _ (r : Routes) (a b : ℕ) where
+  pub between : Pair (plan_of r) a b → (get_or r.lengths.now a 0 ≡ 0 → ⊥) → (get_or r.lengths.now b 0 ≡ 0 → ⊥) → Between (plan_of r) a b
   between w f e =
-      record {
-        first_in = w.first_in;
-        second_in = w.second_in;
-        apart = w.apart;
-        full = rw (has_some (route a (split ls s)) (λ z. f (sym (length_route ls s l.inside a) ∙ z)), has_some (route b (split ls s)) (λ z. e (sym (length_route ls s l.inside b) ∙ z)));
-      }
+      record { first_in = w.first_in; second_in = w.second_in; apart = w.apart; full = rw (some_there r a f, some_there r b e) }
 
-module _ (p : Problem) (tape ls s : List ℕ) (d a b : ℕ) where
-  pub none_moved : both_non_empty a b (split ls s) ≡ false
-      → Holds (move_between p tape a b (record { routes = split ls s; draws = d })).routes (total ls) ls s × (d + 2 ≡ (move_between p tape a b (record { routes = split ls s; draws = d })).draws)
-  unfolding move_between
-  none_moved f = rw f (record { routes = refl; sum = refl }, refl)
+module _ (p : Problem) (old : Routes) (draws : Draws) (a b : ℕ) where
+  abbrev moved : Drawn
+  moved = move_between p draws.tape.now a b (drawn old draws)
 
-  pub moved_between : (n : ℕ) (ls₁ s₁ : List ℕ) → Between (split ls s) a b → Holds (try_move p tape d a b (split ls s)) n ls₁ s₁
-      → Holds (move_between p tape a b (record { routes = split ls s; draws = d })).routes n ls₁ s₁ × (d + 5 ≡ (move_between p tape a b (record { routes = split ls s; draws = d })).draws)
+  none_moved : both_non_empty a b (plan_of old) ≡ false → moved ≡ record { routes = plan_of old; draws = draws.next + 2 }
   unfolding move_between
-  moved_between n ls₁ s₁ w h = rw w.full (h, refl)
+  none_moved f = rw f
+
+  first_none : get_or old.lengths.now a 0 ≡ 0 → moved ≡ record { routes = plan_of old; draws = draws.next + 2 }
+  first_none e = none_moved (rw (none_there old a e))
+
+  second_none : (get_or old.lengths.now a 0 ≡ 0 → ⊥) → get_or old.lengths.now b 0 ≡ 0 → moved ≡ record { routes = plan_of old; draws = draws.next + 2 }
+  second_none f e = none_moved (rw (some_there old a f, none_there old b e))
+
+  still : moved ≡ record { routes = plan_of old; draws = draws.next + 2 } → Becomes old moved.routes (total old.lengths.now) old
+  still e = rw e (record { routes = refl; sum = refl; kept = record { same_lengths = refl; same_stops = refl; count = refl; room = refl } })
+
+  pub first_none_plan : get_or old.lengths.now a 0 ≡ 0 → Becomes old moved.routes (total old.lengths.now) old
+  first_none_plan e = still (first_none e)
+
+  pub first_none_draws : get_or old.lengths.now a 0 ≡ 0 → draws.next + 2 ≡ moved.draws
+  first_none_draws e = rw (first_none e)
+
+  pub second_none_plan : (get_or old.lengths.now a 0 ≡ 0 → ⊥) → get_or old.lengths.now b 0 ≡ 0 → Becomes old moved.routes (total old.lengths.now) old
+  second_none_plan f e = still (second_none f e)
+
+  pub second_none_draws : (get_or old.lengths.now a 0 ≡ 0 → ⊥) → get_or old.lengths.now b 0 ≡ 0 → draws.next + 2 ≡ moved.draws
+  second_none_draws f e = rw (second_none f e)
+
+  module _ (w : Between (plan_of old) a b) where
+    pub moved_plan : (n : ℕ) (new : Routes) → Becomes old (try_move p draws.tape.now draws.next a b (plan_of old)) n new → Becomes old moved.routes n new
+    unfolding move_between
+    moved_plan n new h = rw w.full h
+
+    pub moved_draws : draws.next + 5 ≡ moved.draws
+    unfolding move_between
+    moved_draws = rw w.full
+
+pub ruleset pair_laws = (between, first_none_plan, first_none_draws, second_none_plan, second_none_draws, moved_plan, moved_draws)

@@ -2,39 +2,41 @@
 #![tactic(auto)]
 
 ghost use Rattle.std.specs.Prelude.{◌≡◌, ◌≤◌, length};
-ghost use Rattle.drawn_moves.specs.plan.Plan.{Holds, split, total};
+ghost use Rattle.drawn_moves.specs.plan.Plan.{total};
+ghost use Rattle.drawn_moves.specs.plan.Given.{plan_of, Becomes};
 ghost use Rattle.drawn_moves.specs.perturbation.Perturb.{move_between};
-ghost use Rattle.drawn_moves.specs.perturbation.Parts.{Movable, Pair};
+ghost use Rattle.drawn_moves.specs.perturbation.Parts.{Movable, Pair, drawn};
 ghost use Rattle.drawn_moves.specs.evaluation.Given.{of_instance};
 
+use drawn_moves::routes::Routes;
 use drawn_moves::try_move;
 
 // Of the crates below, passed on to those above.
-pub use drawn_moves::{Instance, Vehicle, draw, eject, other_than};
+pub use drawn_moves::{Demand, Draws, Instance, Vehicle, eject, other_than, routes};
 
-// A move between routes a and b, from draw d on: where one of them is empty there is none. Returns the draws of the call so far.
+// A move between routes a and b: where one of them is empty there is none. Returns the draws of the call so far.
+#[tactic(auto, using(crate::proofs::PairLaws::pair_laws))]
 pub fn move_between(
-    lengths: &mut [u16],
-    stops: &mut [u16],
+    routes: &mut Routes,
     work: &mut [u16],
-    tape: &[u64],
-    d: u64,
+    draws: Draws,
     a: usize,
     b: usize,
     given: &Instance,
 ) -> u64
-    requires { Movable given.now.fleet.net.roads.size tape.now lengths.old stops.old d × (length stops.old ≤ length work.old) × Pair
-        (split lengths.old stops.old) a b }
-    ensures plan { Holds (move_between (of_instance given.now) tape.now a b (record { routes = split lengths.old stops.old; draws = d })).routes
-        (total lengths.old) lengths.new stops.new }
-    ensures draws { result ≡ (move_between (of_instance given.now) tape.now a b (record { routes = split lengths.old stops.old; draws = d })).draws }
+    requires movable { Movable given.now.fleet.net.roads.size routes.old draws }
+    requires has_room { length routes.old.stops.now ≤ length work.old }
+    requires pair { Pair (plan_of routes.old) a b }
+    ensures plan { Becomes routes.old (move_between (of_instance given.now) draws.entry.tape.now a b (drawn routes.old draws.entry)).routes
+        (total routes.old.lengths.now) routes.new }
+    ensures draws { result ≡ (move_between (of_instance given.now) draws.entry.tape.now a b (drawn routes.old draws.entry)).draws }
 {
-    if lengths[a] == 0 {
-        return d + 2; // a is empty
+    if routes.lengths[a] == 0 {
+        return draws.next + 2; // a is empty
     }
-    if lengths[b] == 0 {
-        return d + 2; // b is empty
+    if routes.lengths[b] == 0 {
+        return draws.next + 2; // b is empty
     }
-    try_move(lengths, stops, work, tape, d, a, b, given);
-    d + 5
+    try_move(routes, work, draws, a, b, given);
+    draws.next + 5
 }

@@ -14,6 +14,3 @@ pub use Rattle.ejection_search.specs.models as models
 pub use Rattle.ejection_search.specs.evaluation as evaluation
 pub use Rattle.ejection_search.specs.route_load as route_load
 pub use Rattle.ejection_search.specs.local_search as local_search
--- and their laws
-pub use Rattle.ejection_search.specs.RouteCostVisitLaws as RouteCostVisitLaws
-pub use Rattle.ejection_search.specs.RouteLoadFeasibleLaws as RouteLoadFeasibleLaws

@@ -1,10 +1,13 @@
 -- The parts of a move that have a function of their own. Assumes nothing.
 use Rattle.std.specs.Prelude.{ℕ, suc, ◌+◌, ◌<◌, ◌^◌, ◌≡◌, List, ◌++◌, Bool, ◌&&◌, length, take, drop}
 use Rattle.ejection_search.specs.models.Problem.{Problem}
-use Rattle.ejection_search.specs.plan.Plan.{Plan, Lent, split, route, non_empty}
+use Rattle.ejection_search.specs.plan.Plan.{Plan, route, non_empty}
+use Rattle.ejection_search.specs.plan.Given.{plan_of}
+use Rattle.ejection_search.specs.plan.declared.routes.Routes.{Routes}
 use Rattle.ejection_search.specs.route_load.Feasible.{feasible}
 use Rattle.ejection_search.specs.local_search.Planned.{Planned}
-use Rattle.perturbation.specs.Perturb.{draw, try_exchange, try_tails}
+use Rattle.perturbation.specs.Perturb.{Drawn, draw, try_exchange, try_tails}
+use Rattle.perturbation.specs.declared.draws.Draws.{Draws}
 
 -- the front of route a up to i, and behind it the tail of route b from j
 unfoldable pub joined : ℕ → ℕ → ℕ → ℕ → Plan → List ℕ
@@ -25,12 +28,14 @@ drawn_tails p tape d a b routes =
 
 -- ---- what a move asks for
 
--- a plan over n places, words to draw, and draws so few that those of one move can be counted
-pub record Movable (n : ℕ) (tape lengths stops : List ℕ) (drawn : ℕ) : Type 0 where
-  pub lent : Lent lengths stops
-  pub planned : Planned n (split lengths stops)
-  pub words : 0 < length tape
-  pub countable : drawn + 5 < 2 ^ 64
+-- the plan and the draws that it begins with
+abbrev pub drawn : Routes → Draws → Drawn
+drawn routes draws = record { routes = plan_of routes; draws = draws.next }
+
+-- a plan over n places, and draws so few that those of one move can be counted
+pub record Movable (n : ℕ) (routes : Routes) (draws : Draws) : Type 0 where
+  pub planned : Planned n (plan_of routes)
+  pub countable : draws.next + 5 < 2 ^ 64
 
 -- two different routes of the plan
 pub record Pair (routes : Plan) (a b : ℕ) : Type 0 where

@@ -2,31 +2,48 @@
 ghost use Rattle.std.specs.Prelude.{◌≡◌, ◌+◌, ◌<◌, ◌^◌, length};
 ghost use Rattle.perturbation.specs.Perturb.{word, draw, draw_bool, other_than};
 
-// The word of draw d.
-fn word(tape: &[u64], d: u64) -> u64
-    requires { 0 < length tape.now }
-    ensures { result ≡ word tape.now d }
-{
-    tape[(d % tape.len() as u64) as usize]
+// A tape that has words, and the draw that comes next.
+#[derive(Clone, Copy)]
+pub struct Draws<'a> {
+    pub tape: &'a [u64],
+    pub next: u64,
+    pub ghost some: { 0 < length tape.now },
 }
 
-// Draw d out of m values.
-pub fn draw(tape: &[u64], d: u64, m: usize) -> usize
-    requires { (0 < length tape.now) × (0 < m) }
-    ensures { result ≡ draw tape.now d m }
-{
-    (word(tape, d) % m as u64) as usize
-}
+impl<'a> Draws<'a> {
+    // The word of the draw that comes i draws after the next.
+    #[tactic(auto, unfolding(crate::specs::Perturb::word))]
+    fn word(&self, i: u64) -> u64
+        requires { self.now.next + i < 2 ^ 64 }
+        ensures { result ≡ word self.now.tape.now (self.now.next + i) }
+    {
+        let tape = self.tape;
+        let d = self.next + i;
+        tape[(d % tape.len() as u64) as usize]
+    }
 
-// Draw d out of true and false: true for an even word.
-pub fn draw_bool(tape: &[u64], d: u64) -> bool
-    requires { 0 < length tape.now }
-    ensures { result ≡ draw_bool tape.now d }
-{
-    word(tape, d) % 2 == 0
+    // That draw out of m values.
+    #[tactic(auto, unfolding(crate::specs::Perturb::draw))]
+    pub fn draw(&self, i: u64, m: usize) -> usize
+        requires has_values { 0 < m }
+        requires countable { self.now.next + i < 2 ^ 64 }
+        ensures { result ≡ draw self.now.tape.now (self.now.next + i) m }
+    {
+        (self.word(i) % m as u64) as usize
+    }
+
+    // That draw out of true and false: true for an even word.
+    #[tactic(auto, unfolding(crate::specs::Perturb::draw_bool))]
+    pub fn draw_bool(&self, i: u64) -> bool
+        requires { self.now.next + i < 2 ^ 64 }
+        ensures { result ≡ draw_bool self.now.tape.now (self.now.next + i) }
+    {
+        self.word(i) % 2 == 0
+    }
 }
 
 // The route that draw b out of the routes but a stands for.
+#[tactic(auto, unfolding(crate::specs::Perturb::other_than))]
 pub fn other_than(a: usize, b: usize) -> usize
     requires { b + 1 < 2 ^ 64 }
     ensures { result ≡ other_than a b }

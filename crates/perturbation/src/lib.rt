@@ -4,4 +4,6 @@
 pub mod draws;
 
 // Of the crates below, passed on to those above.
-pub use ejection_search::{Fleet, Instance, Vehicle, checked, eject, feasible, within_capacity};
+pub use ejection_search::{
+    Demand, Fleet, Instance, Vehicle, checked, eject, feasible, within_capacity,
+};

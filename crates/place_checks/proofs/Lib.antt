@@ -1,1 +1,3 @@
--- This crate has no laws of its own; the definitions are in models, Valid.
+-- What the functions' proofs lean on; the definitions are in models, Valid.
+-- a test of each number of a range
+pub mod RangeLaws

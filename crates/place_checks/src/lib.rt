@@ -36,7 +36,7 @@ fn penalty_passes(c: usize, places: &Customers) -> bool
 fn demand_passes(d: i32) -> bool
     ensures { result ≡ demand_passes d }
 {
-    -1000000 <= d && d <= 1000000
+    (-1000000..=1000000).contains(&d)
 }
 
 // Whether row 2 lets place c pass, its service aside.
@@ -58,12 +58,7 @@ pub fn places_pass(demand: &[i32], places: &Customers) -> bool
         × (length places.now.penalty ≡ length demand.now) × (length places.now.flags ≡ length demand.now) }
     ensures { result ≡ every (place_passes demand.now places.now) (length demand.now) 0 }
 {
-    for c in 0..demand.len() {
-        if !place_passes(c, demand, places) {
-            return false;
-        }
-    }
-    true
+    (0..demand.len()).all(|c| place_passes(c, demand, places))
 }
 
 // Whether the window of place c, if it has one, does not close before it opens.
@@ -80,10 +75,5 @@ pub fn windows_pass(places: &Customers) -> bool
     requires { (length places.now.ready ≡ length places.now.flags) × (length places.now.due ≡ length places.now.flags) }
     ensures { result ≡ every (window_ordered places.now) (length places.now.flags) 0 }
 {
-    for c in 0..places.len() {
-        if !window_ordered(c, places) {
-            return false;
-        }
-    }
-    true
+    (0..places.len()).all(|c| window_ordered(c, places))
 }

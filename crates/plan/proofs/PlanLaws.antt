@@ -1,9 +1,11 @@
 -- Where a route lies among the stops, and a stop put in or taken out, in the form that the proofs of the code want. Assumes nothing.
 use Rattle.std.proofs.Common.{◌≡◌, ℕ, ◌+◌, ◌-◌, ◌<◌, ◌≤◌, List, ◌++◌, length, get_or, take, drop, set, sym, refl, ap, ◌∙◌, zero-le, arith, w16, w64, Fits}
 use Rattle.cell_exchange.specs.laws.Edits.{insert_at, cut, cut_one}
-use Rattle.plan.specs.Plan.{Holds, Lent, HasPosition, HasStop, split, route, total, offset, put_in, take_out}
+use Rattle.plan.specs.Plan.{Plan, Holds, Lent, HasPosition, HasStop, split, route, total, offset, put_in, take_out}
 use Rattle.plan.specs.Slices.{offset_more, offset_all, route_within, stop_split, position_within, position_route, stop_within, stop_route}
 use Rattle.plan.specs.Routes.{put_in_slices, take_out_slices}
+use Rattle.plan.specs.Given.{Keeps, Becomes}
+use Rattle.plan.specs.declared.routes.Routes.{Routes}
 
 -- ---- `offset`: the sum of the first i lengths of the first k
 
@@ -41,21 +43,20 @@ module _ (ls : List ℕ) (k : ℕ) where
 
 pub ruleset summing_laws = (summing_none, summing_more, summing_cast, summing_fits, summing_all)
 
--- ---- a position and a stop, where `at` is what `offset` says of their route and `used` what it says of all routes
+-- ---- a position and a stop, where `at` is where their route begins and `used` how many stops there are
 
 module _ (ls s : List ℕ) (k pos at : ℕ) (l : Lent ls s) (a : at ≡ offset ls k) where
   module _ (g : HasPosition (split ls s) k pos) where
     pub position_fits : Fits w64 (at + pos)
     position_fits = record { fits = omega (arith, l.inside, l.few, route_within ls k (position_route ls s k pos g), position_within ls s l k pos g) }
 
-    pub position_in_use : (used : ℕ) → used ≡ offset ls (length ls) → at + pos ≤ used
-    position_in_use used u = omega (arith, route_within ls k (position_route ls s k pos g), offset_all ls, position_within ls s l k pos g)
+    pub position_in_use : (used : ℕ) → used ≡ total ls → at + pos ≤ used
+    position_in_use used u = omega (arith, route_within ls k (position_route ls s k pos g), position_within ls s l k pos g)
 
-    pub put_in_done : (used c : ℕ) {s₁ : List ℕ} → used ≡ offset ls (length ls) → s₁ ≡ insert_at (at + pos) c (take used s) ++ drop (used + 1) s
+    pub put_in_done : (used c : ℕ) {s₁ : List ℕ} → used ≡ total ls → s₁ ≡ insert_at (at + pos) c (take used s) ++ drop (used + 1) s
         → Holds (put_in k pos c (split ls s)) (total ls + 1) (set ls k (get_or ls k 0 + 1)) s₁
     put_in_done used c u e =
-        let n : used ≡ total ls = u ∙ offset_all ls in
-        rw (e, n, a) (put_in_slices ls s k (position_route ls s k pos g) l.inside pos c (position_within ls s l k pos g))
+        rw (e, u, a) (put_in_slices ls s k (position_route ls s k pos g) l.inside pos c (position_within ls s l k pos g))
 
   module _ (g : HasStop (split ls s) k pos) where
     pub stop_fits : Fits w64 (at + pos)
@@ -64,27 +65,26 @@ module _ (ls s : List ℕ) (k pos at : ℕ) (l : Lent ls s) (a : at ≡ offset l
     pub stop_there : at + pos < length s
     stop_there = omega (arith, l.inside, route_within ls k (stop_route ls s k pos g), stop_within ls s l k pos g)
 
-    pub stop_in_use : (used : ℕ) → used ≡ offset ls (length ls) → at + pos + 1 ≤ used
-    stop_in_use used u = omega (arith, route_within ls k (stop_route ls s k pos g), offset_all ls, stop_within ls s l k pos g)
+    pub stop_in_use : (used : ℕ) → used ≡ total ls → at + pos + 1 ≤ used
+    stop_in_use used u = omega (arith, route_within ls k (stop_route ls s k pos g), stop_within ls s l k pos g)
 
     pub stop_is : get_or s (at + pos) 0 ≡ get_or (route k (split ls s)) pos 0
     stop_is = rw a (stop_split ls s l.inside k pos (stop_within ls s l k pos g))
 
-    pub take_out_done : (used : ℕ) {s₁ : List ℕ} → used ≡ offset ls (length ls) → s₁ ≡ cut (at + pos) 1 (take used s) ++ drop (used - 1) s
+    pub take_out_done : (used : ℕ) {s₁ : List ℕ} → used ≡ total ls → s₁ ≡ cut (at + pos) 1 (take used s) ++ drop (used - 1) s
         → Holds (take_out k pos (split ls s)) (total ls - 1) (set ls k (get_or ls k 0 - 1)) s₁
     take_out_done used u e =
-        let n : used ≡ total ls = u ∙ offset_all ls in
-        rw (e, n, a, cut_one (offset ls k + pos) (take (total ls) s)) (take_out_slices ls s k (stop_route ls s k pos g) l.inside pos (stop_within ls s l k pos g))
+        rw (e, u, a, cut_one (offset ls k + pos) (take (total ls) s)) (take_out_slices ls s k (stop_route ls s k pos g) l.inside pos (stop_within ls s l k pos g))
 
-module _ (ls s : List ℕ) (used : ℕ) (u : used ≡ offset ls (length ls)) where
+module _ (ls s : List ℕ) (used : ℕ) (u : used ≡ total ls) where
   pub room_there : total ls < length s → used < length s
-  room_there g = omega (arith, offset_all ls)
+  room_there g = omega arith
 
   pub used_there : Lent ls s → used ≤ length s
-  used_there l = omega (arith, l.inside, offset_all ls)
+  used_there l = omega (arith, l.inside)
 
   pub route_in_use : (k at : ℕ) → k < length ls → at ≡ offset ls k → at + get_or ls k 0 ≤ used
-  route_in_use k at h a = omega (arith, route_within ls k h, offset_all ls)
+  route_in_use k at h a = omega (arith, route_within ls k h)
 
 module _ (ls s : List ℕ) (k : ℕ) (l : Lent ls s) where
   pub length_fits : k < length ls → Fits w64 (get_or ls k 0)
@@ -114,3 +114,25 @@ module _ (ls s : List ℕ) (k pos : ℕ) (l : Lent ls s) (g : HasPosition (split
 pub ruleset place_laws = (position_route, position_upto, position_fits, position_in_use, stop_route, stop_upto, stop_fits, stop_there, stop_in_use, room_there, used_there, route_in_use, length_fits, longer_fits, shorter_there)
 
 pub ruleset edit_laws = (put_in_done, take_out_done, stop_is)
+
+-- ---- what an edit leaves is lent still, and it stands in the same two slices
+
+lent_still : (ls s : List ℕ) {plan : Plan} {n : ℕ} {ls₁ s₁ : List ℕ} → Lent ls s → Holds plan n ls₁ s₁ → length s₁ ≡ length s → n ≤ length s → Lent ls₁ s₁
+lent_still ls s l h e m = record { inside = omega (arith, h.sum); few = omega (arith, l.few) }
+
+module _ (ls s : List ℕ) (k pos at : ℕ) (l : Lent ls s) (a : at ≡ offset ls k) (used : ℕ) (u : used ≡ total ls) {s₁ : List ℕ} (z : length s₁ ≡ length s) where
+  pub put_in_lent : (c : ℕ) → HasPosition (split ls s) k pos → total ls < length s → s₁ ≡ insert_at (at + pos) c (take used s) ++ drop (used + 1) s
+      → Lent (set ls k (get_or ls k 0 + 1)) s₁
+  put_in_lent c g r e = lent_still ls s l (put_in_done ls s k pos at l a g used c u e) z (omega arith)
+
+  pub take_out_lent : HasStop (split ls s) k pos → s₁ ≡ cut (at + pos) 1 (take used s) ++ drop (used - 1) s → Lent (set ls k (get_or ls k 0 - 1)) s₁
+  take_out_lent g e = lent_still ls s l (take_out_done ls s k pos at l a g used u e) z (omega (arith, l.inside))
+
+pub keeps : (old new : Routes) → new.lengths.ghost_name ≡ old.lengths.ghost_name → new.stops.ghost_name ≡ old.stops.ghost_name
+    → length new.lengths.now ≡ length old.lengths.now → length new.stops.now ≡ length old.stops.now → Keeps old new
+keeps old new l s n m = record { same_lengths = l; same_stops = s; count = n; room = m }
+
+pub becomes : (old new : Routes) {plan : Plan} {n : ℕ} → Keeps old new → Holds plan n new.lengths.now new.stops.now → Becomes old plan n new
+becomes old new k h = record { routes = h.routes; sum = h.sum; kept = k }
+
+pub ruleset lent_laws = (put_in_lent, take_out_lent)

@@ -10,5 +10,7 @@ pub mod Routes
 pub mod Dropped
 -- a plan kept in work cells
 pub mod Saved
+-- the plan that lent routes are of
+pub mod Given
 -- crates below, passed on to those above
 pub use Rattle.cell_exchange.specs.laws as laws

@@ -5,7 +5,6 @@ use mathlib.Core.Bool.{Bool, true, false}
 use mathlib.Core.List.{List, [], ◌∷◌}
 use Rattle.std.proofs.Common.{Option, Some, Result, Ok, Err}
 use native.Mathlib.Omega.{arith}
-use lib.ListN.{length}
 use lib.Ieee.{Float, lt}
 use Rattle.pool_cost.specs.floats.Binary64.{◌⊖◌, ◌⊗◌, 1e-12, abs}
 use Rattle.pool_cost.specs.laws.All.{All}
@@ -16,6 +15,7 @@ use Rattle.pool_cost.specs.local_search.Options.{Each, each_found, bind, then_so
 use Rattle.pool_cost.specs.local_search.Planned.{Planned, planned_stops}
 use Rattle.pool_cost.specs.route_cost.Route.{cost}
 use Rattle.pool_cost.specs.local_search.Rounds.{Tried}
+use Rattle.pool_cost.specs.ejection_made.declared.pool.Pool.{Pool}
 use Rattle.pool_cost.specs.ejection_pool.Pool.{Allowance, State, Turn, stop, more, turn, at_limit, run_pool}
 use Rattle.pool_cost.specs.EjectionPoolTurns.{Then, turn_rule, pool_rule}
 use Rattle.pool_cost.specs.ejection_pool.Pooled.{Pooled}
@@ -50,15 +50,15 @@ module _ (given : Allowance) (p : Problem) (n : ℕ) (few : n ≤ 256) where
           (turn_rule given p (Then (λ _. Unit) O) s s.pool (λ _. pooled_planned p n (suc left) s few i) (λ _ _ _ _. tt) (λ _ _ _ _ _. tt) (λ _ _ _ _ _ _ _. tt))
 
 -- the plan that is left where the pool is emptied is one of stops
-module _ (given : Allowance) {p : Problem} {tape : List ℕ} {needed : Bool} {limit : ℕ} {ls s pool work failures : List ℕ} {cells : List Float} {start : ℕ} {counted : Counts}
-    (g : Running p tape needed limit ls s pool work failures cells start counted) where
-  pub done_stops : (plan : Plan) (counts : Counts) (x : Result Counts Counts) → said x plan ≡ run_pool given p limit (state ls s pool start failures counted) → x ≡ Ok counts
+module _ (given : Allowance) {p : Problem} {tape : List ℕ} {limit : ℕ} {before : Plan} {room : ℕ} {pool : Pool} {work failures : List ℕ} {counted : Counts}
+    (g : Running p tape limit before room pool work failures counted) where
+  pub done_stops : {plan : Plan} {counts : Counts} {x : Result Counts Counts} → said x plan ≡ run_pool given p limit (state before pool failures counted) → x ≡ Ok counts
       → All (Stops p.roads.size) plan
-  done_stops plan counts x e f =
-      let t = run_pool given p limit (state ls s pool start failures counted) in
+  done_stops {plan} e f =
+      let t = run_pool given p limit (state before pool failures counted) in
       let d : t.plan ≡ Some plan = ap (λ (y : Tried). y.plan) (sym e ∙ ap (λ (y : Result Counts Counts). said y plan) f) in
-      let few : length s ≤ 256 = omega (arith, g.few) in
-      planned_stops p.roads.size plan (each_found (Planned p.roads.size) t.plan d (pool_planned given p (length s) few limit (state ls s pool start failures counted) g.pooled))
+      let few : room ≤ 256 = omega (arith, g.few) in
+      planned_stops p.roads.size plan (each_found (Planned p.roads.size) t.plan d (pool_planned given p room few limit (state before pool failures counted) g.pooled))
 
 -- the test of the cost
 module _ (p : Problem) (before : Float) (t : Tried) (plan : Plan) (counts : Counts) (x : Result Counts Counts) (e : said x plan ≡ t) where

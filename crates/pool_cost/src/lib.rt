@@ -7,29 +7,28 @@ ghost use Rattle.std.specs.Float.Ieee.{lt};
 ghost use Rattle.plan_cost.specs.floats.Binary64.{◌⊖◌, ◌⊗◌, 1e-12, abs};
 ghost use Rattle.plan_cost.specs.models.Problem.{of_roads, Stops};
 ghost use Rattle.plan_cost.specs.laws.All.{All};
-ghost use Rattle.plan_cost.specs.plan.Plan.{Lent, split};
+ghost use Rattle.plan_cost.specs.plan.Given.{plan_of};
 ghost use Rattle.plan_cost.specs.route_cost.Route.{cost};
 
+use ejection_pool::routes::Routes;
 use plan_cost::abs;
 
 // Of the crates below, passed on to those above.
-pub use ejection_pool::{Counts, LocalSearchNext, Pick, Reduction, constrained, next_pick, rounds};
+pub use ejection_pool::{
+    Allowance, Counts, LocalSearchNext, Pick, Reduction, constrained, next_pick, pool, rounds,
+    routes,
+};
 pub use plan_cost::{
-    Customers, DistanceMatrix, Instance, Problem, Vehicle, copy_part, has_soft_windows, plan_cost,
+    Customers, Demand, DistanceMatrix, Instance, Problem, Vehicle, copy_part, has_soft_windows,
+    plan_cost,
 };
 
 // Whether a plan costs less than `before` by more than the tolerance.
-pub fn is_cheaper(
-    lengths: &[u16],
-    stops: &[u16],
-    before: f64,
-    vehicle: Vehicle,
-    roads: &DistanceMatrix,
-) -> bool
+pub fn is_cheaper(routes: &Routes, before: f64, vehicle: Vehicle, roads: &DistanceMatrix) -> bool
     requires n_bound { (roads.now.size ≤ 256) × (length roads.now.distances ≡ roads.now.size * roads.now.size) }
-    requires depot_id_bound { (vehicle.depot_id < roads.now.size) × Lent lengths.now stops.now × All (Stops roads.now.size)
-        (split lengths.now stops.now) }
-    ensures { result ≡ lt (cost (of_roads roads.now vehicle) (split lengths.now stops.now)) (before ⊖ 1e-12 ⊗ abs before) }
+    requires depot_id_bound { vehicle.depot_id < roads.now.size }
+    requires stops { All (Stops roads.now.size) (plan_of routes.now) }
+    ensures { result ≡ lt (cost (of_roads roads.now vehicle) (plan_of routes.now)) (before ⊖ 1e-12 ⊗ abs before) }
 {
-    plan_cost(lengths, stops, vehicle, roads) < before - 1e-12 * abs(before)
+    plan_cost(routes.lengths, routes.stops, vehicle, roads) < before - 1e-12 * abs(before)
 }

@@ -2,50 +2,56 @@
 // cheapest place or, where it has none, in for others that go onto the pool.
 #![tactic(auto)]
 
-ghost use Rattle.std.specs.Prelude.{◌≡◌};
-ghost use Rattle.pool_turn.specs.plan.Plan.{Lent, split};
+ghost use Rattle.std.specs.Prelude.{◌≡◌, length};
+ghost use Rattle.pool_turn.specs.plan.Given.{plan_of, Keeps};
+ghost use Rattle.pool_turn.specs.ejection_made.Made.{SameCells};
 ghost use Rattle.pool_turn.specs.ejection_pool.Pool.{run_pool};
-ghost use Rattle.pool_turn.specs.ejection_pool.Running.{Running, state, allowance};
+ghost use Rattle.pool_turn.specs.ejection_pool.Running.{Running, state, allowed};
 ghost use Rattle.pool_turns.specs.Ends.{said};
 ghost use Rattle.pool_turn.specs.evaluation.Given.{of_instance};
 
 use pool_turn::one_turn;
+use pool_turn::pool::Pool;
+use pool_turn::routes::Routes;
 
 // Of the crates below, passed on to those above.
-pub use pool_turn::{Counts, Instance, Vehicle};
+pub use pool_turn::{Allowance, Counts, Demand, Instance, Times, Vehicle, pool, routes};
 
-// The pool of `start` stops is emptied into the routes, within `limit` steps and while the call's steps are below `clock`. An error is a pool that is not
-// emptied. Either comes with the counts of the call so far.
+// The pool is emptied into the routes, within the step limit and while the clock lets the call go on. An error is a pool that is not emptied. Either comes
+// with the counts of the call so far.
 pub fn empty_into(
-    lengths: &mut [u16],
-    stops: &mut [u16],
-    pool: &mut [u16],
+    routes: &mut Routes,
+    pool: &mut Pool,
     work: &mut [u16],
+    times: &mut Times,
     failures: &mut [u32],
-    cells: &mut [f64],
-    tape: &[u64],
-    start: usize,
-    limit: usize,
-    clock: u64,
+    allowance: Allowance,
     counted: Counts,
     given: &Instance,
 ) -> Result<Counts, Counts>
-    requires { Running (of_instance given.now) tape.now given.now.fleet.needed limit lengths.old stops.old pool.old work.old failures.old cells.old
-        start counted }
-    ensures plan { said result (split lengths.new stops.new) ≡ run_pool (allowance limit clock tape.now) (of_instance given.now) limit
-        (state lengths.old stops.old pool.old start failures.old counted) }
-    ensures held { Lent lengths.new stops.new }
+    requires { Running (of_instance given.now) allowance.tape.now allowance.limit (plan_of routes.old) (length routes.old.stops.now) pool.old work.old
+        failures.old counted }
+    ensures plan { said result (plan_of routes.new) ≡ run_pool (allowed allowance.entry) (of_instance given.now) allowance.entry.limit
+        (state (plan_of routes.old) pool.old failures.old counted) }
+    ensures kept { Keeps routes.old routes.new }
+    ensures cells { SameCells pool.old pool.new }
 {
-    let mut count = start;
-    let mut left = limit;
+    let mut left = allowance.limit;
     let mut counts = counted;
-    while 0 < count {
-        if left == 0 || clock <= counts.steps {
+    while 0 < pool.count {
+        if left == 0 || allowance.clock <= counts.steps {
             return Err(counts);
         }
         left -= 1;
-        (count, counts) = one_turn(
-            lengths, stops, pool, work, failures, cells, tape, count, counts, given,
+        counts = one_turn(
+            routes,
+            pool,
+            work,
+            times,
+            failures,
+            allowance.tape,
+            counts,
+            given,
         )?;
     }
     Ok(counts)

@@ -26,10 +26,7 @@ pub fn amounts_pass(xs: &[f64]) -> bool
 fn limit_passes(limit: Option<f64>) -> bool
     ensures { result ≡ limit_passes limit }
 {
-    match limit {
-        None => true,
-        Some(most) => is_amount(most),
-    }
+    limit.is_none_or(is_amount)
 }
 
 // Whether a break is of three amounts.
@@ -43,10 +40,7 @@ pub fn break_passes(rest: VehicleBreak) -> bool
 fn rest_passes(rest: Option<VehicleBreak>) -> bool
     ensures { result ≡ rest_passes rest }
 {
-    match rest {
-        None => true,
-        Some(rest) => break_passes(rest),
-    }
+    rest.is_none_or(break_passes)
 }
 
 // Whether a cost per distance is an amount and is 0 or at least 1e-6.

@@ -11,7 +11,7 @@ use models::problem::Problem;
 fn count_passes(n: usize) -> bool
     ensures { result ≡ count_passes n }
 {
-    n != 0 && n <= 256
+    (1..=256).contains(&n)
 }
 
 // Whether each slice of the places has n cells.

@@ -11,9 +11,9 @@ use quick_test::{abs, max, prev_stop};
 
 // Of the crates below, passed on to those above.
 pub use quick_test::{
-    Counts, DistanceMatrix, Fleet, Insertion, Instance, LocalSearchNext, Network, Pick, Reduction,
-    TimeWindow, Vehicle, checked, constrained, copy_part, customer_at, feasible, has_room,
-    infinity, insertion_cost, leave, min, next_pick, offset, put_in, rounds, take_out, travel_time,
+    Counts, Demand, DistanceMatrix, Fleet, Insertion, Instance, LocalSearchNext, Network, Pick,
+    Reduction, TimeWindow, Vehicle, checked, constrained, copy_part, customer_at, feasible,
+    has_room, infinity, insertion_cost, leave, min, next_pick, rounds, routes, travel_time,
     trial_ok, within_capacity,
 };
 

@@ -10,9 +10,9 @@ use insertion_cost::Customer;
 
 // Of the crates below, passed on to those above.
 pub use insertion_cost::{
-    Counts, DistanceMatrix, Fleet, Insertion, Instance, LocalSearchNext, Network, Pick, Reduction,
-    TimeWindow, Vehicle, abs, checked, constrained, copy_part, customer_at, feasible, has_room,
-    infinity, insertion_cost, max, min, next_pick, offset, prev_stop, put_in, rounds, take_out,
+    Counts, Demand, DistanceMatrix, Fleet, Insertion, Instance, LocalSearchNext, Network, Pick,
+    Reduction, TimeWindow, Vehicle, abs, checked, constrained, copy_part, customer_at, feasible,
+    has_room, infinity, insertion_cost, max, min, next_pick, prev_stop, rounds, routes,
     travel_time, trial_ok, within_capacity,
 };
 

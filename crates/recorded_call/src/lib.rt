@@ -12,7 +12,7 @@ use called::run_call;
 
 // Of the crates below, passed on to those above.
 pub use call_history::{Problem, Vehicle, well_formed};
-pub use called::{eliminate, minimise};
+pub use called::{Allowance, eliminate, minimise};
 
 // Call i, run and recorded. Its tape begins at `from`; the answer is where the next one begins.
 pub fn run_next(

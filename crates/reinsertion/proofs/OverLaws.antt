@@ -1,76 +1,108 @@
 -- Laws of specs/Place on the routes of a plan, each from the facts that the code has where it needs it. Assumes nothing.
-use Prim.Native.Nat.{ℕ, ◌+◌, ◌-◌, ◌≤◌, ◌<◌}
+use Prim.Native.Nat.{ℕ, suc, ◌+◌, ◌≤◌, ◌<◌}
 use native.Mathlib.Nat.{le_antisymm}
 use native.Mathlib.Omega.{arith}
-use mathlib.Core.Path.{◌≡◌, sym, ap, ◌∙◌}
+use mathlib.Core.Path.{◌≡◌, refl, sym, ap, ◌∙◌}
 use mathlib.Core.Bool.{true, false}
-use mathlib.Core.List.{List}
-use Rattle.std.proofs.Common.{Option, None, Some}
-use lib.ListN.{length, get_or, take, drop, length-take}
+use mathlib.Core.List.{List, [], ◌∷◌}
+use Rattle.std.proofs.Common.{Option, None, Some, add-one}
+use lib.ListN.{length, get_or, take, drop, length-drop}
+use lib.Seq.{drop-cons, length-take-le}
 use lib.Ieee.{Float, le}
 use borrow.Author.Rules.{rules}
 use Rattle.reinsertion_candidates.specs.floats.Binary64.{◌⊕◌}
+use Rattle.reinsertion_candidates.specs.laws.All.{All, all_get}
 use Rattle.reinsertion_candidates.specs.laws.Loops.{loop, loop_none, loop_more, loop_end}
-use Rattle.reinsertion_candidates.specs.models.Problem.{Problem}
-use Rattle.reinsertion_candidates.specs.plan.Plan.{Plan, split, route}
+use Rattle.reinsertion_candidates.specs.models.Problem.{Problem, Stops}
+use Rattle.reinsertion_candidates.specs.plan.Plan.{Plan, split, route, total}
 use Rattle.reinsertion_candidates.specs.plan.Slices.{length_split, route_within}
 use Rattle.reinsertion_candidates.specs.route_cost.declared.Insertion.{Insertion}
-use Rattle.reinsertion_candidates.specs.RouteCostVisitLaws.{Visiting, visit_start, part_is, visit_more, visit_laws}
 use Rattle.reinsertion_candidates.specs.declared.Move.{Move}
 use Rattle.reinsertion_candidates.specs.Candidates.{candidates, by_cost, first_passing}
 use Rattle.reinsertion_candidates.specs.Place.{look_through, look_over, unless_cut}
 use Rattle.reinsertion_candidates.proofs.PlaceIs.{place_is}
-use Rattle.reinsertion_candidates.specs.Asked.{Asked, Room}
-
--- a part is as long as its bounds say, at the most
-pub part_few : (at end : ℕ) (stops : List ℕ) → end - at < 256 → length (take (end - at) (drop at stops)) < 256
-part_few at end stops h = rw length-take (omega arith)
+use Rattle.reinsertion_candidates.specs.Asked.{Asked}
 
 -- a turn of the loop over routes
 abbrev visited : Problem → Move → Plan → ℕ → Option Insertion → Option Insertion
 visited p m routes k best = look_through p m.c m.added m.saved k (route k routes) best
 
--- what the routes before k leave of the best so far
-pub record Seeking (p : Problem) (lengths stops : List ℕ) (m : Move) (best : Option Insertion) (at k : ℕ) : Type 0 where
+-- what the routes before k leave of the best so far, and of the stops
+pub record Seeking (p : Problem) (lengths stops : List ℕ) (m : Move) (best : Option Insertion) (rest : List ℕ) (k : ℕ) : Type 0 where
   pub asked : Asked p m
-  pub room : Room p.roads.size lengths stops
-  pub visit : Visiting p.roads.size lengths stops at k
+  pub routes : All (Stops p.roads.size) (split lengths stops)
+  pub few : total lengths < 256
+  pub within : k ≤ length lengths
+  pub enough : total (drop k lengths) ≤ length rest
+  pub left : split (drop k lengths) rest ≡ drop k (split lengths stops)
   pub same : best ≡ loop k (visited p m (split lengths stops)) None
 
 module _ (p : Problem) (lengths stops : List ℕ) (m : Move) where
-  pub seeking_start : Asked p m → Room p.roads.size lengths stops → Seeking p lengths stops m None 0 0
-  seeking_start a r =
+  pub seeking_start : Asked p m → All (Stops p.roads.size) (split lengths stops) → total lengths < 256 → total lengths ≤ length stops
+      → Seeking p lengths stops m None stops 0
+  seeking_start a r f i =
       record {
         asked = a;
-        room = r;
-        visit = visit_start p.roads.size lengths stops r.lent r.routes;
+        routes = r;
+        few = f;
+        within = omega arith;
+        enough = i;
+        left = refl;
         same = loop_none (visited p m (split lengths stops)) None;
       }
 
-  module _ (best : Option Insertion) (at k : ℕ) (g : Seeking p lengths stops m best at k) where
-    pub seeking_few : k < length lengths → at + get_or lengths k 0 - at < 256
-    seeking_few h = omega (arith, g.room.few, route_within lengths k h)
+  module _ (best : Option Insertion) (rest : List ℕ) (k : ℕ) (g : Seeking p lengths stops m best rest k) where
+    module _ (h : k < length lengths) where
+      abbrev pub n : ℕ
+      n = get_or lengths k 0
 
-    pub seeking_more : (next : Option Insertion) → k < length lengths
-        → next ≡ look_through p m.c m.added m.saved k (take (at + get_or lengths k 0 - at) (drop at stops)) best
-        → Seeking p lengths stops m next (at + get_or lengths k 0) (k + 1)
-    seeking_more next h e =
-        record {
-          asked = g.asked;
-          room = g.room;
-          visit = visit_more p.roads.size lengths stops at k g.visit h;
-          same =
-              loop_more (visited p m (split lengths stops)) None k best next g.same
-              (rw (part_is p.roads.size lengths stops at k g.visit h) at e);
-        }
+      -- the first of the routes that are left, and those after it
+      first : take n rest ∷ split (drop (suc k) lengths) (drop n rest) ≡ route k (split lengths stops) ∷ drop (suc k) (split lengths stops)
+      unfolding split
+      first =
+          ap (λ (ls : List ℕ). split ls rest) (sym (drop-cons lengths k 0 h)) ∙ g.left
+          ∙ drop-cons (split lengths stops) k [] (rw (length_split lengths stops) h)
+
+      part_is : take n rest ≡ route k (split lengths stops)
+      part_is = ap (λ (plan : Plan). get_or plan 0 []) first
+
+      after : split (drop (suc k) lengths) (drop n rest) ≡ drop (suc k) (split lengths stops)
+      after = ap (λ (plan : Plan). drop 1 plan) first
+
+      part_within : n + total (drop (suc k) lengths) ≤ length rest
+      unfolding total
+      part_within = rw (drop-cons lengths k 0 h) at g.enough
+
+      pub part_there : n ≤ length rest
+      part_there = omega (arith, part_within)
+
+      module _ (front : List ℕ) (ef : front ≡ take n rest) where
+        pub part_stops : Stops p.roads.size front
+        part_stops = rw (ef, part_is) (all_get k [] g.routes (rw (length_split lengths stops) h))
+
+        pub part_few : length front < 256
+        part_few = rw ef (omega (arith, length-take-le n rest part_there, g.few, route_within lengths k h))
+
+        pub seeking_more : (more : List ℕ) → more ≡ drop n rest → (next : Option Insertion) → next ≡ look_through p m.c m.added m.saved k front best
+            → Seeking p lengths stops m next more (k + 1)
+        seeking_more more em next e =
+            record {
+              asked = g.asked;
+              routes = g.routes;
+              few = g.few;
+              within = omega arith;
+              enough = rw (em, add-one k) (omega (arith, part_within, length-drop n rest));
+              left = rw (em, add-one k) after;
+              same = loop_more (visited p m (split lengths stops)) None k best next g.same (rw (ef, part_is) at e);
+            }
 
     pub seeking_end : length lengths ≤ k → best ≡ look_over p m.c m.added m.saved (split lengths stops)
     unfolding look_over
     seeking_end h =
         loop_end (visited p m (split lengths stops)) None k (length (split lengths stops)) best g.same
-        (le_antisymm g.visit.within h ∙ sym (length_split lengths stops))
+        (le_antisymm g.within h ∙ sym (length_split lengths stops))
 
-pub ruleset seeking_laws = (rules, visit_laws, seeking_start, seeking_more, seeking_end)
+pub ruleset seeking_laws = (rules, seeking_start, part_there, part_stops, part_few, seeking_more, seeking_end)
 
 -- ---- the place: there is no candidate; the best reaches the cut; it does not
 

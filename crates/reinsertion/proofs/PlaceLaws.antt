@@ -6,33 +6,31 @@ use mathlib.Core.Bool.{Bool, true, false, cond, not, ◌&&◌, ◌||◌}
 use mathlib.Core.List.{List, []}
 use Rattle.std.proofs.Common.{Option, Some}
 use lib.ListN.{length}
-use lib.IntN.{ℤ}
 use lib.Ieee.{Float}
 use mir.Syntax.{w64}
 use mir.Val.{Fits}
 use borrow.Author.Rules.{rules}
 use Rattle.reinsertion_candidates.specs.floats.Binary64.{is_finite}
 use Rattle.reinsertion_candidates.specs.laws.Loops.{loop, loop_none, loop_more, loop_end, loop_same}
-use Rattle.reinsertion_candidates.specs.models.declared.vehicle.Vehicle.{Vehicle}
 use Rattle.reinsertion_candidates.specs.models.Problem.{Problem, of_demand, problem_of}
 use Rattle.reinsertion_candidates.specs.route_cost.declared.Insertion.{Insertion}
 use Rattle.reinsertion_candidates.specs.route_load.Feasible.{has_room}
 use Rattle.reinsertion_candidates.specs.LocalSearchReadLaws.{room_any}
 use Rattle.reinsertion_candidates.specs.declared.Move.{Move}
-use Rattle.reinsertion_candidates.specs.reinsertion_worth.Worth.{worth, insertion_worth, current}
+use Rattle.reinsertion_candidates.specs.reinsertion_worth.Worth.{soft, worth, insertion_worth, current}
 use Rattle.reinsertion_candidates.specs.Place.{counts, comes_first, settles, look_at, look_through}
 use Rattle.reinsertion_candidates.specs.Asked.{Looked}
 
 -- ---- one position: no candidate that leads; it does not end the search; it does
 
 module _ (p : Problem) (m : Move) (k : ℕ) (r : List ℕ) (pos : ℕ) (best : Option Insertion) (x : Float) (g : Looked p m r)
-    (ex : x ≡ insertion_worth p r pos m.c) (v : Bool) (ev : v ≡ ((not m.soft || is_finite x) && comes_first x best)) where
+    (ex : x ≡ insertion_worth p r pos m.c) (s : Bool) (es : s ≡ soft p) (v : Bool) (ev : v ≡ ((not s || is_finite x) && comes_first x best)) where
   abbrev taken : Option Insertion
   taken = cond (settles p m.c m.added m.saved r pos x) (Some (record { cost = x; route = k; pos = pos })) best
 
   both : cond v taken best ≡ look_at p m.c m.added m.saved k r pos best
   unfolding look_at
-  both = rw (← ex, ev, g.soft_told) (go (counts p x) (comes_first x best))
+  both = rw (← ex, ev, es) (go (counts p x) (comes_first x best))
     where
       go : (a b : Bool) → cond (a && b) taken best ≡ cond a (cond b taken best) best
       go true b = refl

@@ -12,8 +12,6 @@ pub use Rattle.reinsertion_candidates.specs.local_search as local_search
 pub use Rattle.reinsertion_candidates.specs.reinsertion_worth as reinsertion_worth
 pub use Rattle.reinsertion_candidates.specs as reinsertion_candidates
 -- and their laws
-pub use Rattle.reinsertion_candidates.specs.RouteCostVisitLaws as RouteCostVisitLaws
-pub use Rattle.reinsertion_candidates.specs.RouteLoadFeasibleLaws as RouteLoadFeasibleLaws
 pub use Rattle.reinsertion_candidates.specs.LocalSearchNextLaws as LocalSearchNextLaws
 pub use Rattle.reinsertion_candidates.specs.LocalSearchRoundLaws as LocalSearchRoundLaws
 pub use Rattle.reinsertion_candidates.specs.LocalSearchSearchLaws as LocalSearchSearchLaws

@@ -2,24 +2,25 @@
 // `for c in moving` in local_search/route_elimination.rs). One pass over the routes and their positions with the best so far.
 #![tactic(auto)]
 
-ghost use Rattle.std.specs.Prelude.{◌≡◌, [], suc, ◌-◌, ◌<◌, ◌≤◌, length, take, drop};
+ghost use Rattle.std.specs.Prelude.{◌≡◌, suc, ◌<◌, ◌≤◌, length};
 ghost use Rattle.reinsertion_candidates.specs.laws.Loops.{loop};
 ghost use Rattle.reinsertion_candidates.specs.models.Problem.{Stops};
-ghost use Rattle.reinsertion_candidates.specs.plan.Plan.{split};
+ghost use Rattle.reinsertion_candidates.specs.plan.Given.{plan_of};
 ghost use Rattle.reinsertion_candidates.specs.reinsertion_worth.Worth.{current};
 ghost use Rattle.reinsertion_candidates.specs.Candidates.{candidates, by_cost, first_passing};
 ghost use Rattle.reinsertion_candidates.specs.Place.{look_at, look_through, look_over};
 ghost use Rattle.reinsertion_candidates.specs.Asked.{Asked, Looked, Room};
 ghost use Rattle.reinsertion_candidates.specs.evaluation.Given.{of_instance, of_fleet};
 
+use reinsertion_candidates::routes::Routes;
 use reinsertion_candidates::{
     Fleet, Insertion, current, has_room, insertion_worth, leads, settles,
 };
 
 // Of the crates below, passed on to those above.
 pub use reinsertion_candidates::{
-    Counts, Instance, LocalSearchNext, Move, Pick, Problem, Reduction, Vehicle, constrained,
-    has_soft_windows, is_finite, next_pick, put_in, route_cost_gain_floor, worth,
+    Counts, Demand, Instance, LocalSearchNext, Move, Pick, Problem, Reduction, Vehicle, is_finite,
+    next_pick, route_cost_gain_floor, routes, worth,
 };
 
 // One position of route k, which has room for the stop: the better of what it gives and the best so far.
@@ -35,8 +36,8 @@ fn look_at(
     requires { Looked (of_fleet fleet.now) stop route.now × (pos ≤ length route.now) × (before ≡ current (of_fleet fleet.now) route.now) }
     ensures { result ≡ look_at (of_fleet fleet.now) stop.c stop.added stop.saved k route.now pos best }
 {
-    let cost = insertion_worth(route, pos, stop.c, before, stop.soft, fleet);
-    if leads(cost, stop.soft, best) && settles(route, pos, cost, stop, fleet) {
+    let cost = insertion_worth(route, pos, stop.c, before, fleet);
+    if leads(cost, fleet.soft, best) && settles(route, pos, cost, stop, fleet) {
         Some(Insertion {
             cost: cost,
             route: k,
@@ -77,53 +78,39 @@ fn look_through(
     requires { Asked (of_instance given.now) stop × Stops given.now.fleet.net.roads.size route.now × (length route.now < 256) }
     ensures { result ≡ look_through (of_instance given.now) stop.c stop.added stop.saved k route.now best }
 {
-    let room = has_room(route, stop.c, given.demand, given.fleet.vehicle);
+    let room = has_room(route, stop.c, &given.demand, given.fleet.vehicle);
     if room {
-        let before = current(route, stop.soft, &given.fleet);
+        let before = current(route, &given.fleet);
         return look_along(route, k, before, best, stop, &given.fleet);
     }
     best
 }
 
-// Route k, which stands from `at` to `end` among the stops.
-fn look_part(
-    stops: &[u16],
-    at: usize,
-    end: usize,
-    k: usize,
-    best: Option<Insertion>,
-    stop: Move,
-    given: &Instance,
-) -> Option<Insertion>
-    requires { Asked (of_instance given.now) stop × (at ≤ end) × (end ≤ length stops.now) × Stops given.now.fleet.net.roads.size
-        (take (end - at) (drop at stops.now)) × (end - at < 256) }
-    ensures { result ≡ look_through (of_instance given.now) stop.c stop.added stop.saved k (take (end - at) (drop at stops.now)) best }
-{
-    look_through(&stops[at..end], k, best, stop, given)
-}
-
 // The first least of the candidates that end the search, over the routes of a plan and then their positions.
-fn look_over(lengths: &[u16], stops: &[u16], stop: Move, given: &Instance) -> Option<Insertion>
-    requires { Asked (of_instance given.now) stop × Room given.now.fleet.net.roads.size lengths.now stops.now }
-    ensures { result ≡ look_over (of_instance given.now) stop.c stop.added stop.saved (split lengths.now stops.now) }
+fn look_over(routes: &Routes, stop: Move, given: &Instance) -> Option<Insertion>
+    requires asked { Asked (of_instance given.now) stop }
+    requires room { Room given.now.fleet.net.roads.size routes.now }
+    ensures { result ≡ look_over (of_instance given.now) stop.c stop.added stop.saved (plan_of routes.now) }
 {
+    let lengths = &*routes.lengths;
+    let mut rest = &*routes.stops;
     let mut best = None;
-    let mut at = 0;
     for (k, length) in lengths.iter().enumerate() {
-        let end = at + *length as usize;
-        best = look_part(stops, at, end, k, best, stop, given);
-        at = end;
+        let (route, more) = rest.split_at(*length as usize);
+        best = look_through(route, k, best, stop, given);
+        rest = more;
     }
     best
 }
 
 // The first candidate by cost that passes the check, where all before it and itself cost less than what is left to save.
-pub fn place(lengths: &[u16], stops: &[u16], stop: Move, given: &Instance) -> Option<Insertion>
-    requires { Asked (of_instance given.now) stop × Room given.now.fleet.net.roads.size lengths.now stops.now }
-    ensures { result ≡ first_passing (of_instance given.now) (split lengths.now stops.now) stop.c stop.added stop.saved
-        (by_cost (candidates (of_instance given.now) stop.c (split lengths.now stops.now))) }
+pub fn place(routes: &Routes, stop: Move, given: &Instance) -> Option<Insertion>
+    requires asked { Asked (of_instance given.now) stop }
+    requires room { Room given.now.fleet.net.roads.size routes.now }
+    ensures { result ≡ first_passing (of_instance given.now) (plan_of routes.now) stop.c stop.added stop.saved
+        (by_cost (candidates (of_instance given.now) stop.c (plan_of routes.now))) }
 {
-    let found = look_over(lengths, stops, stop, given)?;
+    let found = look_over(routes, stop, given)?;
     if stop.added + found.cost >= stop.saved {
         None
     } else {

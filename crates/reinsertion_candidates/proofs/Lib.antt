@@ -1,5 +1,3 @@
 -- Laws of this crate's definitions, as the code meets them.
--- the tests of a candidate
-pub mod TestLaws
 -- the pass over routes and positions finds the first candidate in sorted order that passes
 pub mod PlaceIs

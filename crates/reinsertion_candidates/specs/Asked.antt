@@ -1,25 +1,22 @@
 -- What the code asks of a stop that is to be moved, of a route that it may go into, and of the plan. Assumes nothing.
-use Rattle.std.specs.Prelude.{ℕ, ◌<◌, ◌≡◌, List, [], length, ℤ, Float}
+use Rattle.std.specs.Prelude.{ℕ, ◌<◌, List, [], length}
 use Rattle.reinsertion_worth.specs.laws.All.{All}
-use Rattle.reinsertion_worth.specs.models.declared.vehicle.Vehicle.{Vehicle}
-use Rattle.reinsertion_worth.specs.models.Problem.{Problem, problem, depot, Fit, Stops, Admitted, problem_of}
-use Rattle.reinsertion_worth.specs.plan.Plan.{Lent, split, total}
-use Rattle.reinsertion_worth.specs.route_load.Feasible.{constrained}
+use Rattle.reinsertion_worth.specs.models.Problem.{Problem, depot, Fit, Stops, Admitted, problem_of}
+use Rattle.reinsertion_worth.specs.plan.Plan.{total}
+use Rattle.reinsertion_worth.specs.plan.Given.{plan_of}
+use Rattle.reinsertion_worth.specs.plan.declared.routes.Routes.{Routes}
 use Rattle.reinsertion_candidates.specs.declared.Move.{Move}
-use Rattle.reinsertion_worth.specs.Worth.{soft}
 
 -- a stop that is to be moved, of a problem that a search is given
 pub record Asked (p : Problem) (m : Move) : Type 0 where
   pub admitted : Admitted p
   pub there : m.c < p.roads.size
-  pub soft_told : m.soft ≡ soft p
 
 -- such a stop and a route, which has fewer stops than there can be places; no demand is read
 pub record Looked (p : Problem) (m : Move) (r : List ℕ) : Type 0 where
   pub fit : Fit p.places p.roads
   pub home : depot p < p.roads.size
   pub there : m.c < p.roads.size
-  pub soft_told : m.soft ≡ soft p
   pub stops : Stops p.roads.size r
   pub few : length r < 256
 
@@ -31,13 +28,11 @@ module _ (p : Problem) where
         fit = a.admitted.fit;
         home = a.admitted.depot_in;
         there = a.there;
-        soft_told = a.soft_told;
         stops = s;
         few = f;
       }
 
--- two slices with a plan of fewer stops than there can be places
-pub record Room (n : ℕ) (lengths stops : List ℕ) : Type 0 where
-  pub lent : Lent lengths stops
-  pub routes : All (Stops n) (split lengths stops)
-  pub few : total lengths < 256
+-- lent routes with a plan of fewer stops than there can be places
+pub record Room (n : ℕ) (lent : Routes) : Type 0 where
+  pub routes : All (Stops n) (plan_of lent)
+  pub few : total lent.lengths.now < 256

@@ -17,7 +17,6 @@ pub use Rattle.reinsertion_worth.specs.route_load as route_load
 pub use Rattle.reinsertion_worth.specs.local_search as local_search
 pub use Rattle.reinsertion_worth.specs as reinsertion_worth
 -- and their laws
-pub use Rattle.reinsertion_worth.specs.RouteCostVisitLaws as RouteCostVisitLaws
 pub use Rattle.reinsertion_worth.specs.RouteLoadFeasibleLaws as RouteLoadFeasibleLaws
 pub use Rattle.reinsertion_worth.specs.LocalSearchNextLaws as LocalSearchNextLaws
 pub use Rattle.reinsertion_worth.specs.LocalSearchReadLaws as LocalSearchReadLaws

@@ -12,19 +12,17 @@ use reinsertion_worth::{total_less, trial_ok};
 
 // Of the crates below, passed on to those above.
 pub use reinsertion_worth::{
-    Counts, Fleet, Insertion, Instance, LocalSearchNext, Pick, Problem, Reduction, Vehicle,
-    constrained, current, cut, has_room, has_soft_windows, insertion_worth, is_finite, next_pick,
-    put_in, route_cost_gain_floor, worth,
+    Counts, Demand, Fleet, Insertion, Instance, LocalSearchNext, Pick, Problem, Reduction, Vehicle,
+    current, cut, has_room, insertion_worth, is_finite, next_pick, route_cost_gain_floor, routes,
+    worth,
 };
 
-// A stop c that is to be moved: what was added to the worth of the other routes so far, what is saved, and whether a window is
-// soft.
+// A stop c that is to be moved, what was added to the worth of the other routes so far, and what is saved.
 #[derive(Clone, Copy)]
 pub struct Move {
     pub c: usize,
     pub added: f64,
     pub saved: f64,
-    pub soft: bool,
 }
 
 // Whether a cost makes a candidate: with a soft window it is a number.

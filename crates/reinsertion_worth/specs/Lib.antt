@@ -12,7 +12,6 @@ pub use Rattle.insertion_cost.specs.route_cost as route_cost
 pub use Rattle.insertion_cost.specs.route_load as route_load
 pub use Rattle.insertion_cost.specs.local_search as local_search
 -- and their laws
-pub use Rattle.insertion_cost.specs.RouteCostVisitLaws as RouteCostVisitLaws
 pub use Rattle.insertion_cost.specs.RouteLoadFeasibleLaws as RouteLoadFeasibleLaws
 pub use Rattle.insertion_cost.specs.LocalSearchNextLaws as LocalSearchNextLaws
 pub use Rattle.insertion_cost.specs.LocalSearchReadLaws as LocalSearchReadLaws

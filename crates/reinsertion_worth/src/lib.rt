@@ -6,7 +6,6 @@ ghost use Rattle.std.specs.Prelude.{◌≡◌, [], ◌+◌, ◌<◌, ◌≤◌, 
 ghost use Rattle.route_worth.specs.laws.Edits.{insert_at};
 ghost use Rattle.route_worth.specs.models.RouteLimits.{limits_of};
 ghost use Rattle.route_worth.specs.models.Problem.{Stops};
-ghost use Rattle.route_worth.specs.evaluation.Check.{has_soft_windows};
 ghost use Rattle.route_worth.specs.evaluation.Eval.{effective_cost};
 ghost use Rattle.reinsertion_worth.specs.Worth.{worth, insertion_worth, current};
 ghost use Rattle.route_worth.specs.evaluation.Given.{of_fleet};
@@ -18,17 +17,17 @@ use route_worth::{RouteLimits, effective_cost};
 
 // Of the crates below, passed on to those above.
 pub use insertion_cost::{
-    Counts, Insertion, LocalSearchNext, Pick, Reduction, constrained, cut, has_room, next_pick,
-    put_in, route_cost_gain_floor, trial_ok,
+    Counts, Insertion, LocalSearchNext, Pick, Reduction, cut, has_room, next_pick,
+    route_cost_gain_floor, routes, trial_ok,
 };
-pub use route_worth::{Fleet, Instance, Problem, Vehicle, has_soft_windows, is_finite, total_less};
+pub use route_worth::{Demand, Fleet, Instance, Problem, Vehicle, is_finite, total_less};
 
 // What a route is worth.
-pub fn worth(route: &[u16], soft: bool, fleet: &Fleet) -> f64
-    requires { Stops fleet.now.net.roads.size route.now × (soft ≡ has_soft_windows fleet.now.net.places.flags) }
+pub fn worth(route: &[u16], fleet: &Fleet) -> f64
+    requires { Stops fleet.now.net.roads.size route.now }
     ensures { result ≡ worth (of_fleet fleet.now) route.now }
 {
-    if soft { // the lateness is weighed
+    if fleet.soft { // the lateness is weighed
         return effective_cost(
             route,
             fleet.vehicle.depot_id,
@@ -40,12 +39,12 @@ pub fn worth(route: &[u16], soft: bool, fleet: &Fleet) -> f64
 }
 
 // What a route is worth where a window is soft, and else 0.0, which is not read.
-pub fn current(route: &[u16], soft: bool, fleet: &Fleet) -> f64
-    requires { Stops fleet.now.net.roads.size route.now × (soft ≡ has_soft_windows fleet.now.net.places.flags) }
+pub fn current(route: &[u16], fleet: &Fleet) -> f64
+    requires { Stops fleet.now.net.roads.size route.now }
     ensures { result ≡ current (of_fleet fleet.now) route.now }
 {
-    if soft {
-        return worth(route, soft, fleet);
+    if fleet.soft {
+        return worth(route, fleet);
     }
     0.0
 }
@@ -77,19 +76,15 @@ fn trial_cost(route: &[u16], pos: usize, c: usize, fleet: &Fleet) -> f64
 }
 
 // What c at position pos of a route costs: the change in worth. `before` is what `current` says of the route.
-pub fn insertion_worth(
-    route: &[u16],
-    pos: usize,
-    c: usize,
-    before: f64,
-    soft: bool,
-    fleet: &Fleet,
-) -> f64
-    requires { (c < fleet.now.net.roads.size) × (pos ≤ length route.now) × Stops fleet.now.net.roads.size route.now × (length route.now < 256)
-        × (soft ≡ has_soft_windows fleet.now.net.places.flags) × (before ≡ current (of_fleet fleet.now) route.now) }
+pub fn insertion_worth(route: &[u16], pos: usize, c: usize, before: f64, fleet: &Fleet) -> f64
+    requires place { c < fleet.now.net.roads.size }
+    requires position { pos ≤ length route.now }
+    requires stops { Stops fleet.now.net.roads.size route.now }
+    requires few { length route.now < 256 }
+    requires told { before ≡ current (of_fleet fleet.now) route.now }
     ensures { result ≡ insertion_worth (of_fleet fleet.now) route.now pos c }
 {
-    if soft {
+    if fleet.soft {
         let with = trial_cost(route, pos, c, fleet);
         return with - before;
     }

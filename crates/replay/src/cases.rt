@@ -11,7 +11,7 @@ use replayed_calls::{
 fn limit_at(numbers: &mut Numbers) -> Option<Option<f64>> {
     let given = numbers.read::<bool>()?;
     let most = numbers.read::<f64>()?;
-    Some(if given { Some(most) } else { None })
+    Some(given.then_some(most))
 }
 
 fn rest_at(numbers: &mut Numbers) -> Option<Option<VehicleBreak>> {
@@ -21,7 +21,7 @@ fn rest_at(numbers: &mut Numbers) -> Option<Option<VehicleBreak>> {
         latest: numbers.read()?,
         duration: numbers.read()?,
     };
-    Some(if given { Some(rest) } else { None })
+    Some(given.then_some(rest))
 }
 
 fn vehicle_at(numbers: &mut Numbers) -> Option<Vehicle> {

@@ -7,7 +7,7 @@
 ghost use Rattle.std.specs.Prelude.{◌≡◌, length, MatchOption};
 ghost use Rattle.tally.specs.Tally.{Noted};
 
-use change_verdict::change_agrees;
+use change_verdict::{Allowance, change_agrees};
 use question_verdict::{Kind, Stored, question_agrees};
 
 // Of the crates below, passed on to those above.
@@ -56,15 +56,12 @@ fn change_at(
     stops: &mut [u16],
     work: &mut [u16],
     cells: &mut [f64],
-    limit: u64,
-    clock: u64,
+    allowance: Allowance,
     tally: &mut Tally,
     problem: &Problem,
 ) -> Option<()>
     ensures { MatchOption result (tally.new ≡ tally.old) (λ _. Noted tally.old tally.new) }
 {
-    let mut tape_room = [0u64; 64];
-    let tape = numbers.fill(&mut tape_room)?;
     let answer = answer_at(numbers)?;
     let mut lengths_room = [0u16; 264];
     let lengths_after = numbers.fill(&mut lengths_room)?;
@@ -79,9 +76,7 @@ fn change_at(
         stops_after,
         work,
         cells,
-        tape,
-        limit,
-        clock,
+        allowance,
         problem,
     );
     tally.note(kind, agrees);
@@ -117,6 +112,8 @@ fn change_with_cells(
     let clock = numbers.next()?;
     let small = numbers.at_most(8704)? as usize;
     let wide = numbers.at_most(2560)? as usize;
+    let mut tape_room = [0u64; 64];
+    let tape = numbers.fill(&mut tape_room)?;
     let mut work = u16_cells();
     let mut cells = f64_cells();
     change_at(
@@ -126,8 +123,7 @@ fn change_with_cells(
         stops,
         &mut work[..small],
         &mut cells[..wide],
-        limit,
-        clock,
+        Allowance { tape, limit, clock },
         tally,
         problem,
     )

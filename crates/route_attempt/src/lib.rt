@@ -1,11 +1,12 @@
 // An attempt to empty a route into the others (local_search/route_minimization.rs, the body of the round in `minimize_routes`).
 #![tactic(auto)]
 
-ghost use Rattle.std.specs.Prelude.{◌≡◌, ◌<◌, ◌≤◌, length};
-ghost use Rattle.plan_copy.specs.plan.Plan.{split};
+ghost use Rattle.std.specs.Prelude.{◌≡◌, ◌+◌, ◌<◌, ◌≤◌, length};
+ghost use Rattle.plan_copy.specs.plan.Plan.{saved, split};
+ghost use Rattle.plan_copy.specs.plan.Given.{plan_of, Keeps};
 ghost use Rattle.route_without.specs.route_cost.Route.{cost};
 ghost use Rattle.route_without.specs.pool_cost.Attempt.{attempt};
-ghost use Rattle.route_without.specs.ejection_pool.Running.{allowance};
+ghost use Rattle.route_without.specs.ejection_pool.Running.{allowed};
 ghost use Rattle.route_without.specs.local_search.Search.{but_last};
 ghost use Rattle.route_without.specs.pool_attempt.Judged.{tried};
 ghost use Rattle.route_without.specs.Attempting.{Attempting};
@@ -13,49 +14,56 @@ ghost use Rattle.route_attempt.specs.Leaves.{Leaves};
 ghost use Rattle.route_without.specs.evaluation.Given.{of_instance};
 
 use plan_copy::{restore, save};
+use route_without::routes::Routes;
 use route_without::{Counts, Instance, Vehicle, try_without};
 
 // Of the crates below, passed on to those above.
 pub use plan_copy::drop_empty;
+pub use route_without::{Allowance, Times, routes};
+
+// Both slices are kept in the first work cells.
+fn keep(work: &mut [u16], routes: &Routes)
+    requires { length routes.now.lengths.now + length routes.now.stops.now ≤ length work.old }
+    ensures { work.new ≡ saved routes.now.lengths.now routes.now.stops.now work.old }
+{
+    save(work, routes.lengths, routes.stops);
+}
 
 // The attempt at route r of a plan that costs `before`. An error is a plan that is kept: both slices are as they were; the first work cells hold them
 // meanwhile. Either comes with the counts of the call so far.
 pub fn attempt(
-    lengths: &mut [u16],
-    stops: &mut [u16],
+    routes: &mut Routes,
     work: &mut [u16],
-    cells: &mut [f64],
-    tape: &[u64],
+    times: &mut Times,
+    allowance: Allowance,
     r: usize,
     before: f64,
-    limit: usize,
-    clock: u64,
     counted: Counts,
     given: &Instance,
 ) -> Result<Counts, Counts>
-    requires attempting { Attempting (of_instance given.now) tape.now given.now.fleet.needed limit lengths.old stops.old work.old cells.old counted }
-    requires r_in_bounds { (r < length lengths.old) × (before ≡ cost (of_instance given.now) (split lengths.old stops.old))
-        × (length lengths.old ≤ 256) × (767 ≤ length work.old) }
-    ensures plan { tried result (split (but_last lengths.new) stops.new) ≡ attempt (allowance limit clock tape.now) (of_instance given.now)
-        (split lengths.old stops.old) r counted }
-    ensures held { Leaves result lengths.old stops.old lengths.new stops.new }
+    requires attempting { Attempting (of_instance given.now) allowance.tape.now allowance.limit routes.old work.old counted }
+    requires r_in_bounds { r < length routes.old.lengths.now }
+    requires before_value { before ≡ cost (of_instance given.now) (plan_of routes.old) }
+    requires few { length routes.old.lengths.now ≤ 256 }
+    requires has_room { 767 ≤ length work.old }
+    ensures plan { tried result (split (but_last routes.new.lengths.now) routes.new.stops.now) ≡ attempt (allowed allowance.entry)
+        (of_instance given.now) (plan_of routes.old) r counted }
+    ensures held { Leaves result routes.old routes.new }
+    ensures kept { Keeps routes.old routes.new }
 {
-    save(work, lengths, stops);
+    keep(work, routes);
     let tried = try_without(
-        lengths,
-        stops,
+        routes,
         &mut work[512..],
-        cells,
-        tape,
+        times,
+        allowance,
         r,
         before,
-        limit,
-        clock,
         counted,
         given,
     );
     if let Err(counts) = tried {
-        restore(lengths, stops, work);
+        restore(routes.lengths, routes.stops, work);
         return Err(counts);
     }
     tried

@@ -12,7 +12,7 @@ pub use evaluation::check::{
 };
 pub use evaluation::eval::{Walk, is_feasible, limited};
 pub use evaluation::{
-    Customer, Customers, DistanceMatrix, Fleet, Instance, Label, Network, Problem, Riding,
+    Customer, Customers, Demand, DistanceMatrix, Fleet, Instance, Label, Network, Problem, Riding,
     RouteEval, RouteLimits, TimeWindow, Vehicle, VehicleBreak, abs, break_schedule_schedule,
     check as evaluation_check, customer_at, get, infinity, is_finite, largest, max, min,
     penalty_at, ride_all, ride_home, scale, serve_at, total_less, travel_time, window_at,

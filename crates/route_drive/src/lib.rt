@@ -9,7 +9,7 @@ use trial_route::{Label, customer_at, get, serve_at, travel_time};
 
 // Of the crates below, passed on to those above.
 pub use trial_route::{
-    Customers, DistanceMatrix, Fleet, Instance, Network, Problem, RouteEval, RouteLimits,
+    Customers, Demand, DistanceMatrix, Fleet, Instance, Network, Problem, RouteEval, RouteLimits,
     TimeWindow, Vehicle, VehicleBreak, Walk, break_schedule_schedule, has_soft_windows, infinity,
     is_finite, largest, limited, max, penalty_at, total_less, window_at,
 };

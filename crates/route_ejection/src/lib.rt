@@ -10,13 +10,13 @@ use ejection_positions::{Out, fails_more, failure_sum, keep, try_left};
 
 // Of the crates below, passed on to those above.
 pub use ejection_positions::{
-    Ejection, Fleet, Instance, Vehicle, checked, feasible, within_capacity,
+    Demand, Ejection, Fleet, Instance, Times, Vehicle, checked, feasible, routes, within_capacity,
 };
 
 // The stops at i and j leave route k: first their failures alone, then what is kept.
 fn try_out(
     work: &mut [u16],
-    cells: &mut [f64],
+    times: &mut Times,
     failures: &[u32],
     route: &[u16],
     k: usize,
@@ -26,8 +26,9 @@ fn try_out(
     best: Option<Ejection>,
     given: &Instance,
 ) -> Option<Ejection>
-    requires sought { Sought (of_instance given.now) failures.now route.now c given.now.fleet.needed }
-    requires route_in_bounds { (length route.now ≤ length work.old) × (512 ≤ length cells.old) × (i ≤ j) × (j < length route.now) }
+    requires sought { Sought (of_instance given.now) failures.now route.now c }
+    requires room { length route.now ≤ length work.old }
+    requires leave { (i ≤ j) × (j < length route.now) }
     ensures { result ≡ try_out (of_instance given.now) c failures.now k route.now i j best }
 {
     let failed = failure_sum(failures, route, i, j);
@@ -41,13 +42,13 @@ fn try_out(
         first: i,
         second: j,
     };
-    try_left(cells, &work[0..m], out, c, best, given)
+    try_left(times, &work[..m], out, c, best, given)
 }
 
 // One stop leaves route k.
 pub fn try_one(
     work: &mut [u16],
-    cells: &mut [f64],
+    times: &mut Times,
     failures: &[u32],
     route: &[u16],
     k: usize,
@@ -55,13 +56,13 @@ pub fn try_one(
     best: Option<Ejection>,
     given: &Instance,
 ) -> Option<Ejection>
-    requires sought { Sought (of_instance given.now) failures.now route.now c given.now.fleet.needed }
-    requires route_in_bounds { (length route.now ≤ length work.old) × (512 ≤ length cells.old) }
+    requires sought { Sought (of_instance given.now) failures.now route.now c }
+    requires room { length route.now ≤ length work.old }
     ensures { result ≡ try_one (of_instance given.now) c failures.now k route.now best }
 {
     let mut found = best;
     for i in 0..route.len() {
-        found = try_out(work, cells, failures, route, k, i, i, c, found, given);
+        found = try_out(work, times, failures, route, k, i, i, c, found, given);
     }
     found
 }
@@ -69,7 +70,7 @@ pub fn try_one(
 // The stop at i and a later one leave route k.
 fn try_two_from(
     work: &mut [u16],
-    cells: &mut [f64],
+    times: &mut Times,
     failures: &[u32],
     route: &[u16],
     k: usize,
@@ -78,15 +79,16 @@ fn try_two_from(
     best: Option<Ejection>,
     given: &Instance,
 ) -> Option<Ejection>
-    requires sought { Sought (of_instance given.now) failures.now route.now c given.now.fleet.needed }
-    requires route_in_bounds { (length route.now ≤ length work.old) × (512 ≤ length cells.old) × (i < length route.now) }
+    requires sought { Sought (of_instance given.now) failures.now route.now c }
+    requires room { length route.now ≤ length work.old }
+    requires leaves { i < length route.now }
     ensures { result ≡ try_two_from (of_instance given.now) c failures.now k route.now i best }
 {
     let mut found = best;
     for d in 0..route.len() - (i + 1) {
         found = try_out(
             work,
-            cells,
+            times,
             failures,
             route,
             k,
@@ -103,7 +105,7 @@ fn try_two_from(
 // Two stops leave route k.
 pub fn try_two(
     work: &mut [u16],
-    cells: &mut [f64],
+    times: &mut Times,
     failures: &[u32],
     route: &[u16],
     k: usize,
@@ -111,13 +113,13 @@ pub fn try_two(
     best: Option<Ejection>,
     given: &Instance,
 ) -> Option<Ejection>
-    requires sought { Sought (of_instance given.now) failures.now route.now c given.now.fleet.needed }
-    requires route_in_bounds { (length route.now ≤ length work.old) × (512 ≤ length cells.old) }
+    requires sought { Sought (of_instance given.now) failures.now route.now c }
+    requires room { length route.now ≤ length work.old }
     ensures { result ≡ try_two (of_instance given.now) c failures.now k route.now best }
 {
     let mut found = best;
     for i in 0..route.len() {
-        found = try_two_from(work, cells, failures, route, k, i, c, found, given);
+        found = try_two_from(work, times, failures, route, k, i, c, found, given);
     }
     found
 }

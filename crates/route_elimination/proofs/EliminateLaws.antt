@@ -1,24 +1,23 @@
 -- The search: what an attempt of a round asks for, what each of its answers says of the rounds, and what the call answers. Assumes nothing.
-use Prim.Native.Nat.{ℕ, ◌≤◌}
+use Prim.Native.Nat.{ℕ}
 use mathlib.Core.Path.{◌≡◌, refl, ap, subst, ◌∙◌}
 use mathlib.Core.List.{List, ◌++◌}
-use Rattle.std.proofs.Common.{Option, Some}
+use Rattle.std.proofs.Common.{Option}
 use native.Mathlib.Omega.{arith}
 use lib.ListN.{length, take, drop}
-use Rattle.elimination_round.specs.models.Problem.{Problem, Admitted}
+use Rattle.elimination_round.specs.models.Problem.{Problem}
 use Rattle.elimination_round.specs.route_order.declared.Pick.{Pick}
 use Rattle.elimination_round.specs.plan.Plan.{Plan, split}
 use Rattle.elimination_round.specs.route_order.Order.{following}
 use Rattle.elimination_round.specs.local_search.declared.rounds.Counts.{Counts}
 use Rattle.elimination_round.specs.local_search.declared.rounds.Next.{Next}
-use Rattle.elimination_round.specs.local_search.declared.rounds.Next.TheVariants.{Kept, Accepted as Took}
+use Rattle.elimination_round.specs.local_search.declared.rounds.Next.TheVariants.{Accepted as Took}
 use Rattle.elimination_round.specs.local_search.Rounds.{reduce, try_each}
 use Rattle.elimination_round.specs.local_search.Reduced.{Bounded}
 use Rattle.elimination_round.specs.local_search.Search.{but_last, NextLeaves, Answers, tried_next, uncounted, left_with}
 use Rattle.elimination_round.specs.LocalSearchRoundLaws.{rounds_of}
-use Rattle.elimination_round.specs.LocalSearchSearchLaws.{Rounding, Trying, trying_whole, trying_few, trying_routes_few, trying_planned, refused, taken, after_kept, after_accepted}
+use Rattle.elimination_round.specs.LocalSearchSearchLaws.{Rounding, Trying, taken, after_accepted}
 use Rattle.elimination_round.specs.elimination_moves.Eliminate.{attempt, eliminate_routes}
-use Rattle.elimination_round.specs.Eliminating.{Eliminating}
 use Rattle.elimination_round.specs.elimination_moves.Eliminated.{attempt_reduces}
 
 -- ---- the loops
@@ -32,24 +31,9 @@ still m h =
 
 module _ (p : Problem) {ls₁ s₁ : List ℕ} {count : ℕ} {ls s : List ℕ} {last : Option Pick}
     (g : Trying (attempt p) 0 p.roads.size ls₁ s₁ uncounted count ls s uncounted last) where
-  pub trying_eliminating : (work : List ℕ) → Admitted p → 511 ≤ length work → Eliminating p (take count ls) s work
-  trying_eliminating work a w = record {
-    admitted = a;
-    whole = trying_whole _ _ _ g;
-    few = trying_few _ _ _ g;
-    routes_few = trying_routes_few _ _ _ g;
-    planned = trying_planned _ _ _ g;
-    work_room = w;
-  }
-
   module _ (z : Next) (Y S : List ℕ)
       (e : tried_next (attempt p) (split (take count ls) s) (take count ls) uncounted z (split (but_last Y) S) ≡ try_each (attempt p) (split (take count ls) s) (following (take count ls) last) uncounted)
       (h : NextLeaves 0 p.roads.size (take count ls) s last uncounted z Y S) (m : Counts) where
-    pub after_refused : (pick : Pick) → z ≡ Kept pick m → Trying (attempt p) 0 p.roads.size ls₁ s₁ uncounted count (Y ++ drop count ls) S uncounted (Some pick)
-    after_refused pick f =
-        subst (λ (m : Counts). Trying (attempt p) 0 p.roads.size ls₁ s₁ uncounted count (Y ++ drop count ls) S m (Some pick))
-        (still m (refused _ _ _ g z Y S e h pick m f).counted) (after_kept _ _ _ g z Y S e h pick m f)
-
     pub after_gone : length Y ≡ length (take count ls) → z ≡ Took m → (ls₀ s₀ : List ℕ) → length ls₁ ≡ length ls₀ → length s₁ ≡ length s₀ → length S ≡ length s
         → reduce (attempt p) (split ls₀ s₀) ≡ rounds_of (attempt p) (split (take count ls₁) s₁) uncounted
         → Rounding (attempt p) 0 p.roads.size ls₀ s₀ (Y ++ drop count ls) S uncounted

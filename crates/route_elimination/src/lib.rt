@@ -2,20 +2,48 @@
 // The definitions and their laws are in `elimination_moves`.
 #![tactic(auto)]
 
-ghost use Rattle.std.specs.Prelude.{length};
-ghost use Rattle.elimination_round.specs.plan.Plan.{split};
-ghost use Rattle.elimination_round.specs.local_search.Search.{Answers, uncounted, left_with};
-ghost use Rattle.elimination_round.specs.elimination_moves.Eliminate.{eliminate_routes};
-ghost use Rattle.elimination_round.specs.Eliminating.{Eliminating};
+ghost use Rattle.std.specs.Prelude.{◌≡◌, ◌≤◌, length};
+ghost use Rattle.elimination_round.specs.plan.Plan.{split, total};
+ghost use Rattle.elimination_round.specs.local_search.Planned.{Planned};
+ghost use Rattle.elimination_round.specs.route_order.Order.{following};
+ghost use Rattle.elimination_round.specs.route_cost.Route.{gain_floor};
+ghost use Rattle.elimination_round.specs.local_search.Rounds.{try_each};
+ghost use Rattle.elimination_round.specs.local_search.Search.{Answers, but_last, tried_next, NextLeaves, uncounted, left_with};
+ghost use Rattle.elimination_round.specs.elimination_moves.Eliminate.{attempt, eliminate_routes};
 ghost use Rattle.elimination_round.specs.evaluation.Given.{of_instance};
 
+use elimination_round::routes::Routes;
 use elimination_round::{
-    Instance, LocalSearchNext as Next, Pick, constrained, drop_empty, has_soft_windows,
-    route_cost_gain_floor as gain_floor, try_next,
+    Instance, LocalSearchNext as Next, Pick, drop_empty, route_cost_gain_floor as gain_floor,
+    try_next,
 };
 
 // Of the crates below, passed on to those above.
 pub use elimination_round::{Counts, Problem, Reduction, Vehicle};
+
+// The next attempt of a round, on the routes that are left.
+fn next_attempt(
+    lengths: &mut [u16],
+    stops: &mut [u16],
+    work: &mut [u16],
+    last: Option<Pick>,
+    floor: f64,
+    given: &Instance,
+) -> Next
+    requires whole { total lengths.old ≡ length stops.old }
+    requires few { length stops.old ≤ 255 }
+    requires routes_few { length lengths.old ≤ 256 }
+    requires planned { Planned given.now.fleet.net.roads.size (split lengths.old stops.old) }
+    requires work_room { 511 ≤ length work.old }
+    requires floor_is { floor ≡ gain_floor given.now.fleet.net.roads }
+    ensures round { tried_next (attempt (of_instance given.now)) (split lengths.old stops.old) lengths.old uncounted result
+        (split (but_last lengths.new) stops.new)
+        ≡ try_each (attempt (of_instance given.now)) (split lengths.old stops.old) (following lengths.old last) uncounted }
+    ensures held { NextLeaves 0 given.now.fleet.net.roads.size lengths.old stops.old last uncounted result lengths.new stops.new }
+{
+    let mut routes = Routes { lengths, stops };
+    try_next(&mut routes, work, last, floor, given)
+}
 
 // `eliminate_routes`: rounds of attempts, begun again from the shortest route as soon as one is accepted. How many routes are left.
 pub fn eliminate_routes(
@@ -24,17 +52,20 @@ pub fn eliminate_routes(
     work: &mut [u16],
     given: &Instance,
 ) -> usize
-    requires { Eliminating (of_instance given.now) lengths.old stops.old work.old }
+    requires whole { total lengths.old ≡ length stops.old }
+    requires few { length stops.old ≤ 255 }
+    requires routes_few { length lengths.old ≤ 256 }
+    requires planned { Planned given.now.fleet.net.roads.size (split lengths.old stops.old) }
+    requires work_room { 511 ≤ length work.old }
     ensures { Answers (left_with (eliminate_routes (of_instance given.now) (split lengths.old stops.old))) (length lengths.old) result uncounted
         lengths.new stops.new }
 {
-    let soft = has_soft_windows(given.fleet.net.places.flags());
     let floor = gain_floor(given.fleet.net.roads.distances());
     'search: loop {
         let count = drop_empty(lengths);
         let mut last: Option<Pick> = None;
         loop {
-            let next = try_next(&mut lengths[..count], stops, work, last, floor, soft, given);
+            let next = next_attempt(&mut lengths[..count], stops, work, last, floor, given);
             match next {
                 Next::End => {
                     return count;

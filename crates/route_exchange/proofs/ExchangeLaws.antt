@@ -7,7 +7,9 @@ use lib.ListN.{length, get_or, set}
 use mir.Syntax.{w16, w64}
 use mir.Val.{Fits}
 use Rattle.exchanged_stops.specs.laws.Exchanges.{swap_parts}
-use Rattle.exchanged_stops.specs.plan.Plan.{Plan, Holds, Lent, HasPosition, split, total, offset, exchange_tails}
+use Rattle.exchanged_stops.specs.plan.Plan.{Holds, Lent, HasPosition, split, total, offset, exchange_tails}
+use Rattle.exchanged_stops.specs.plan.Given.{plan_of, Becomes}
+use Rattle.exchanged_stops.specs.PlanRoutes.{Routes}
 use Rattle.exchanged_stops.specs.plan.Slices.{route_within, route_before, position_within, position_route}
 use Rattle.exchanged_stops.specs.PlanExchanges.{exchange_tails_slices, exchange_tails_comm}
 use Rattle.exchanged_stops.specs.PlanPlanLaws.{position_upto, position_fits, position_length_fits, end_fits}
@@ -61,9 +63,14 @@ module _ (ls s : List ℕ) (a i b j : ℕ) (l : Lent ls s) (h : a < b) (f : HasP
         → Holds (exchange_tails a i b j (split ls s)) (total ls) (set (set ls a (i + (get_or ls b 0 - j))) b (j + (get_or ls a 0 - i))) s₁
     exchange_tails_done e = rw (e, ep, eq) (exchange_tails_slices ls s a i b j h (position_route ls s b j g) first_cut second_cut l.inside)
 
+    -- the tails exchanged are lent still
+    pub tails_lent : {s₁ : List ℕ} → length s₁ ≡ length s → s₁ ≡ swap_parts (p + i) (p + get_or ls a 0) (q + j) (q + get_or ls b 0) s
+        → Lent (set (set ls a (i + (get_or ls b 0 - j))) b (j + (get_or ls a 0 - i))) s₁
+    tails_lent n e = let h = exchange_tails_done e in record { inside = omega (arith, h.sum, l.inside); few = omega (arith, l.few) }
+
 pub ruleset tails_laws = (position_route, position_upto, position_within, position_fits, position_length_fits, end_fits, first_fits, second_fits, first_stored, second_stored)
 
 -- the other order
-pub exchange_tails_turned : (plan : Plan) (a i b j n : ℕ) (ls s : List ℕ) → (a ≡ b → ⊥) → Holds (exchange_tails b j a i plan) n ls s
-    → Holds (exchange_tails a i b j plan) n ls s
-exchange_tails_turned plan a i b j n ls s d h = rw (exchange_tails_comm a i b j plan d) h
+pub exchange_tails_turned : (old new : Routes) (a i b j n : ℕ) → (a ≡ b → ⊥) → Becomes old (exchange_tails b j a i (plan_of old)) n new
+    → Becomes old (exchange_tails a i b j (plan_of old)) n new
+exchange_tails_turned old new a i b j n d h = rw (exchange_tails_comm a i b j (plan_of old) d) h

@@ -5,3 +5,4 @@ pub use Rattle.exchanged_stops.specs.plan as plan
 -- and their laws
 pub use Rattle.exchanged_stops.specs.PlanExchanges as PlanExchanges
 pub use Rattle.exchanged_stops.specs.PlanPlanLaws as PlanPlanLaws
+pub use Rattle.exchanged_stops.specs.PlanRoutes as PlanRoutes

@@ -2,51 +2,43 @@
 #![tactic(auto)]
 
 ghost use Rattle.std.specs.Prelude.{◌≡◌, ◌≤◌, ◌<◌, length};
-ghost use Rattle.exchanged_stops.specs.plan.Plan.{Holds, Lent, HasPosition, split, total, exchange_tails};
+ghost use Rattle.exchanged_stops.specs.plan.Plan.{HasPosition, total, exchange_tails};
+ghost use Rattle.exchanged_stops.specs.plan.Given.{plan_of, Becomes};
+
+use exchanged_stops::routes::{Position, Routes};
 
 // Of the crates below, passed on to those above.
-pub use exchanged_stops::{clear, copy_part, cut, offset};
+pub use exchanged_stops::{clear, copy_part, cut, routes};
 
-// The tail of route a from i and the tail of route b from j, a later one, are exchanged.
-fn exchange_in_order(
-    lengths: &mut [u16],
-    stops: &mut [u16],
-    work: &mut [u16],
-    a: usize,
-    i: usize,
-    b: usize,
-    j: usize,
-)
-    requires lent { Lent lengths.old stops.old }
-    requires a_lt_b { (a < b) × HasPosition (split lengths.old stops.old) a i × HasPosition (split lengths.old stops.old) b j × (length stops.old ≤ length work.old) }
-    ensures { Holds (exchange_tails a i b j (split lengths.old stops.old)) (total lengths.old) lengths.new stops.new }
+// The tail of route a from its position and the tail of route b, a later one, are exchanged.
+fn exchange_in_order(routes: &mut Routes, work: &mut [u16], a: Position, b: Position)
+    requires in_order { a.route < b.route }
+    requires first { HasPosition (plan_of routes.old) a.route a.pos }
+    requires second { HasPosition (plan_of routes.old) b.route b.pos }
+    requires has_room { length routes.old.stops.now ≤ length work.old }
+    ensures { Becomes routes.old (exchange_tails a.route a.pos b.route b.pos (plan_of routes.old)) (total routes.old.lengths.now) routes.new }
 {
-    let m = lengths[a] as usize;
-    let n = lengths[b] as usize;
-    let p = offset(lengths, a);
-    let q = offset(lengths, b);
-    exchanged_stops::swap_parts(stops, work, p + i, p + m, q + j, q + n);
-    lengths[a] = (i + (n - j)) as u16;
-    lengths[b] = (j + (m - i)) as u16;
+    let m = routes.lengths[a.route] as usize;
+    let n = routes.lengths[b.route] as usize;
+    let p = routes.begins(a.route);
+    let q = routes.begins(b.route);
+    exchanged_stops::swap_parts(routes.stops, work, p + a.pos, p + m, q + b.pos, q + n);
+    let lengths = &mut *routes.lengths;
+    lengths[a.route] = (a.pos + (n - b.pos)) as u16;
+    lengths[b.route] = (b.pos + (m - a.pos)) as u16;
 }
 
-// The tail of route a from i and the tail of route b from j, another one, are exchanged. The work cells are free.
-pub fn exchange_tails(
-    lengths: &mut [u16],
-    stops: &mut [u16],
-    work: &mut [u16],
-    a: usize,
-    i: usize,
-    b: usize,
-    j: usize,
-)
-    requires lent { Lent lengths.old stops.old }
-    requires fact { (a ≡ b → ⊥) × HasPosition (split lengths.old stops.old) a i × HasPosition (split lengths.old stops.old) b j × (length stops.old ≤ length work.old) }
-    ensures { Holds (exchange_tails a i b j (split lengths.old stops.old)) (total lengths.old) lengths.new stops.new }
+// The tails of two routes from a position each, the routes not the same, are exchanged. The work cells are free.
+pub fn exchange_tails(routes: &mut Routes, work: &mut [u16], a: Position, b: Position)
+    requires other { a.route ≡ b.route → ⊥ }
+    requires first { HasPosition (plan_of routes.old) a.route a.pos }
+    requires second { HasPosition (plan_of routes.old) b.route b.pos }
+    requires has_room { length routes.old.stops.now ≤ length work.old }
+    ensures { Becomes routes.old (exchange_tails a.route a.pos b.route b.pos (plan_of routes.old)) (total routes.old.lengths.now) routes.new }
 {
-    if a < b {
-        exchange_in_order(lengths, stops, work, a, i, b, j);
+    if a.route < b.route {
+        exchange_in_order(routes, work, a, b);
         return;
     }
-    exchange_in_order(lengths, stops, work, b, j, a, i);
+    exchange_in_order(routes, work, b, a);
 }

@@ -5,10 +5,8 @@ use mathlib.Core.Bool.{Bool, true, false}
 use mathlib.Core.List.{List, []}
 use Rattle.std.proofs.Common.{Option}
 use lib.ListN.{length}
-use lib.IntN.{ℤ}
 use lib.Ieee.{Float}
 use Rattle.insertion.specs.laws.Loops.{loop, loop_same}
-use Rattle.insertion.specs.models.declared.vehicle.Vehicle.{Vehicle}
 use Rattle.insertion.specs.models.Problem.{Problem, of_demand, problem_of}
 use Rattle.insertion.specs.route_cost.declared.Insertion.{Insertion}
 use Rattle.insertion.specs.route_load.Feasible.{has_room}

@@ -10,49 +10,52 @@ ghost use Rattle.insertion.specs.Cheapest.{try_route};
 ghost use Rattle.insertion.specs.Pass.{pass_position};
 ghost use Rattle.insertion.specs.evaluation.Given.{of_instance, of_fleet};
 
-use insertion::{Fleet, has_room, prepare, try_position};
+use insertion::{Fleet, has_room, try_position};
 
 // Of the crates below, passed on to those above.
-pub use insertion::{Counts, Insertion, Instance, Vehicle, put_in};
+pub use insertion::{Counts, Demand, Insertion, Instance, Times, Vehicle, routes};
 
 // Every position of route k, which has room for c, its end too.
 fn try_positions(
     route: &[u16],
-    cells: &[f64],
+    times: &Times,
     c: usize,
     k: usize,
     best: Option<Insertion>,
     fleet: &Fleet,
 ) -> Option<Insertion>
-    requires { (c < fleet.now.net.roads.size) × Stops fleet.now.net.roads.size route.now × (512 ≤ length cells.now) }
-    ensures { result ≡ loop (suc (length route.now)) (pass_position (of_fleet fleet.now) c k route.now (held (length route.now) cells.now)) best }
+    requires there { c < fleet.now.net.roads.size }
+    requires stops { Stops fleet.now.net.roads.size route.now }
+    ensures { result ≡ loop (suc (length route.now))
+        (pass_position (of_fleet fleet.now) c k route.now (held (length route.now) times.now.cells.now)) best }
 {
     let mut found = best;
     for pos in 0..route.len() + 1 {
-        found = try_position(route, cells, pos, c, k, found, fleet);
+        found = try_position(route, times, pos, c, k, found, fleet);
     }
     found
 }
 
 // Route k: the load test once, the departures and latest arrivals once, then the positions.
 pub fn try_route(
-    cells: &mut [f64],
+    times: &mut Times,
     route: &[u16],
     c: usize,
     k: usize,
     best: Option<Insertion>,
     given: &Instance,
 ) -> Option<Insertion>
-    requires { (c < given.now.fleet.net.roads.size) × Stops given.now.fleet.net.roads.size route.now × (512 ≤ length cells.old) }
+    requires there { c < given.now.fleet.net.roads.size }
+    requires stops { Stops given.now.fleet.net.roads.size route.now }
     ensures { result ≡ try_route (of_instance given.now) c k route.now best }
 {
-    let room = has_room(route, c, given.demand, given.fleet.vehicle);
+    let room = has_room(route, c, &given.demand, given.fleet.vehicle);
     if !room {
         return best;
     }
-    let in_time = prepare(cells, route, &given.fleet);
+    let in_time = times.prepare(route, &given.fleet);
     if in_time {
-        try_positions(route, cells, c, k, best, &given.fleet)
+        try_positions(route, times, c, k, best, &given.fleet)
     } else {
         best
     }

@@ -5,35 +5,35 @@ ghost use Rattle.std.specs.Prelude.{length};
 ghost use Rattle.minimization_search.specs.plan.Plan.{split};
 ghost use Rattle.minimization_search.specs.local_search.Search.{Answers};
 ghost use Rattle.minimization_search.specs.minimization.Minimize.{minimize_routes};
-ghost use Rattle.minimization_search.specs.ejection_pool.Running.{allowance};
+ghost use Rattle.minimization_search.specs.ejection_pool.Running.{allowed};
 ghost use Rattle.minimization_search.specs.Minimizing.{Searching};
 ghost use Rattle.minimization_search.specs.evaluation.Given.{of_instance};
 
-use minimization_search::{Counts, Instance, Reduction, has_soft_windows, search};
+use minimization_search::{Counts, Instance, Reduction, search};
 
 // Of the crates below, passed on to those above.
-pub use minimization_search::{Customers, DistanceMatrix, Problem, Vehicle, rounds};
+pub use minimization_search::{
+    Allowance, Customers, DistanceMatrix, Problem, Times, Vehicle, rounds,
+};
 
 // `minimize_routes`: with a soft window the plan comes back as given, otherwise with as many routes fewer as the attempts find.
 pub fn minimize_routes(
     lengths: &mut [u16],
     stops: &mut [u16],
     work: &mut [u16],
-    cells: &mut [f64],
-    tape: &[u64],
-    limit: usize,
-    clock: u64,
+    times: &mut Times,
+    allowance: Allowance,
     given: &Instance,
 ) -> Reduction
-    requires { Searching (of_instance given.now) tape.now limit lengths.old stops.old work.old cells.old }
-    ensures { Answers (minimize_routes (allowance limit clock tape.now) (of_instance given.now) (split lengths.old stops.old)) (length lengths.old)
+    requires { Searching (of_instance given.now) allowance.tape.now allowance.limit lengths.old stops.old work.old }
+    ensures { Answers (minimize_routes (allowed allowance.entry) (of_instance given.now) (split lengths.old stops.old)) (length lengths.old)
         result.routes result.counts lengths.new stops.new }
 {
-    if has_soft_windows(given.fleet.net.places.flags()) {
+    if given.fleet.soft {
         return Reduction {
             routes: lengths.len(),
             counts: Counts { steps: 0, draws: 0 },
         };
     }
-    search(lengths, stops, work, cells, tape, limit, clock, given)
+    search(lengths, stops, work, times, allowance, given)
 }

@@ -5,7 +5,7 @@ ghost use Rattle.std.specs.Prelude.{◌≡◌};
 ghost use Rattle.route_order.specs.Order.{is_after, shorter, considered, next_pick};
 
 // Of the crates below, passed on to those above.
-pub use plan::{copy_part, cut, insert_at, offset, put_in, take_out};
+pub use plan::{copy_part, cut, insert_at, routes};
 
 // A route and its length.
 #[derive(Clone, Copy)]

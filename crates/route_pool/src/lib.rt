@@ -2,18 +2,23 @@
 #![tactic(auto)]
 
 ghost use Rattle.std.specs.Prelude.{◌≡◌, reverse, ◌<◌, ◌≤◌, length};
-ghost use Rattle.ejection_made.specs.plan.Plan.{Lent, split, route};
-ghost use Rattle.ejection_made.specs.Made.{stack};
+ghost use Rattle.ejection_made.specs.plan.Plan.{route};
+ghost use Rattle.ejection_made.specs.plan.Given.{plan_of};
+ghost use Rattle.ejection_made.specs.Made.{pooled, SameCells};
 
-use ejection_made::{copy_part, offset};
+use ejection_made::copy_part;
+use ejection_made::pool::Pool;
+use ejection_made::routes::Routes;
 
-// Route r goes to the first cells of the pool. Returns how many stops it has.
-pub fn to_pool(pool: &mut [u16], lengths: &[u16], stops: &[u16], r: usize) -> usize
-    requires { Lent lengths.now stops.now × (r < length lengths.now) × (length stops.now ≤ length pool.old) }
-    ensures { stack pool.new result ≡ reverse (route r (split lengths.now stops.now)) }
+// Route r goes to the first cells of the pool, in place of what was there.
+pub fn to_pool(pool: &mut Pool, routes: &Routes, r: usize)
+    requires there { r < length routes.now.lengths.now }
+    requires has_room { length routes.now.stops.now ≤ length pool.old.cells.now }
+    ensures stops { pooled pool.new ≡ reverse (route r (plan_of routes.now)) }
+    ensures kept { SameCells pool.old pool.new }
 {
-    let at = offset(lengths, r);
-    let count = lengths[r] as usize;
-    copy_part(pool, 0, stops, at, count);
-    count
+    let at = routes.begins(r);
+    let count = routes.lengths[r] as usize;
+    copy_part(pool.cells, 0, routes.stops, at, count);
+    pool.count = count;
 }

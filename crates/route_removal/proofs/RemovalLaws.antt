@@ -12,7 +12,7 @@ use borrow.Author.Tests.{eq-eqb, ne_eqb}
 use Rattle.route_exchange.specs.laws.Edits.{erase, cut, cut_one, length_erase}
 use Rattle.route_exchange.specs.laws.Keeps.{keep, keep_append}
 use Rattle.route_exchange.specs.plan.Plan.{Holds, Lent, split, total, offset, padded, drop_zero}
-use Rattle.route_exchange.specs.plan.Slices.{offset_all}
+use Rattle.route_exchange.specs.plan.Slices.{total_append}
 use Rattle.route_exchange.specs.plan.Routes.{erase_slices}
 
 -- ---- `erase_route`
@@ -26,14 +26,20 @@ module _ (ls s : List ℕ) (k : ℕ) (l : Lent ls s) (h : k < length ls) where
       drop-cons ls (length ls - 1) 0 (omega arith) ∙ rw (z, drop_of_length-le ls {i = length ls} (omega arith)) in
       rw (e, take-length ls, cut_one k ls, d) (set_at (erase k ls) (get_or ls (length ls - 1) 0) [] 0 (length ls - 1) (omega arith))
 
-  pub erase_plan : (at used : ℕ) {s₁ : List ℕ} → at ≡ offset ls k → used ≡ offset ls (length ls)
+  pub erase_plan : (at used : ℕ) {s₁ : List ℕ} → at ≡ offset ls k → used ≡ total ls
       → s₁ ≡ cut at (get_or ls k 0) (take used s) ++ drop (used - get_or ls k 0) s
       → Holds (erase k (split ls s)) (total ls - get_or ls k 0) (erase k ls) s₁
-  erase_plan at used a u e =
-      let n : used ≡ total ls = u ∙ offset_all ls in
-      rw (e, a, n) (erase_slices ls s k h l.inside)
+  erase_plan at used a u e = rw (e, a, u) (erase_slices ls s k h l.inside)
 
-pub ruleset erase_laws = (erase_rest, erase_plan)
+  -- the rest is lent still
+  pub erase_lent : (at used : ℕ) {ls₁ s₁ : List ℕ} → at ≡ offset ls k → used ≡ total ls → length s₁ ≡ length s
+      → ls₁ ≡ cut k 1 (take (length ls) ls) ++ drop (length ls - 1) ls → s₁ ≡ cut at (get_or ls k 0) (take used s) ++ drop (used - get_or ls k 0) s
+      → Lent (set ls₁ (length ls - 1) 0) s₁
+  unfolding total
+  erase_lent at used a u n f e =
+      record { inside = rw (erase_rest f) (omega (arith, total_append (erase k ls) (0 ∷ []), (erase_plan at used a u e).sum, l.inside)); few = omega (arith, l.few) }
+
+pub ruleset erase_laws = (erase_rest, erase_plan, erase_lent)
 
 -- ---- `counted` and `drop_empty`: the first r lengths are those of the first k that are not 0, and from k on all is as it was
 

@@ -2,3 +2,4 @@
 -- crates below, passed on to those above
 pub use Rattle.route_exchange.specs.laws as laws
 pub use Rattle.route_exchange.specs.plan as plan
+pub use Rattle.route_exchange.specs.PlanRoutes as PlanRoutes

@@ -3,23 +3,28 @@
 
 ghost use Rattle.std.specs.Prelude.{◌≡◌, ◌∷◌, ◌++◌, [], ◌-◌, ◌<◌, length, get_or};
 ghost use Rattle.route_exchange.specs.laws.Edits.{erase};
-ghost use Rattle.route_exchange.specs.plan.Plan.{Holds, Lent, split, total, padded, drop_zero};
+ghost use Rattle.route_exchange.specs.plan.Plan.{Holds, total, padded, drop_zero};
+ghost use Rattle.route_exchange.specs.plan.Given.{plan_of, Keeps};
+
+use route_exchange::routes::Routes;
 
 // Of the crates below, passed on to those above.
-pub use route_exchange::{copy_part, offset};
+pub use route_exchange::{copy_part, routes};
 
 // Route k is taken out: every later length moves one place left and the last becomes 0, every later stop moves left by the route's length.
-pub fn erase_route(lengths: &mut [u16], stops: &mut [u16], k: usize)
-    requires lent { Lent lengths.old stops.old }
-    requires k_in_bounds { k < length lengths.old }
-    ensures rest { lengths.new ≡ erase k lengths.old ++ 0 ∷ [] }
-    ensures plan { Holds (erase k (split lengths.old stops.old)) (total lengths.old - get_or lengths.old k 0) (erase k lengths.old) stops.new }
+pub fn erase_route(routes: &mut Routes, k: usize)
+    requires { k < length routes.old.lengths.now }
+    ensures rest { routes.new.lengths.now ≡ erase k routes.old.lengths.now ++ 0 ∷ [] }
+    ensures plan { Holds (erase k (plan_of routes.old)) (total routes.old.lengths.now - get_or routes.old.lengths.now k 0)
+        (erase k routes.old.lengths.now) routes.new.stops.now }
+    ensures kept { Keeps routes.old routes.new }
 {
+    let used = routes.used();
+    let at = routes.begins(k);
+    let n = routes.lengths[k] as usize;
+    route_exchange::cut(routes.stops, used, at, n);
+    let lengths = &mut *routes.lengths;
     let count = lengths.len();
-    let used = offset(lengths, count);
-    let at = offset(lengths, k);
-    let n = lengths[k] as usize;
-    route_exchange::cut(stops, used, at, n);
     route_exchange::cut(lengths, count, k, 1);
     lengths[count - 1] = 0;
 }

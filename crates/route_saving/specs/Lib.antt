@@ -5,7 +5,6 @@ pub use Rattle.emptied_route.specs.floats as floats
 pub use Rattle.emptied_route.specs.models as models
 pub use Rattle.emptied_route.specs.route_order as route_order
 pub use Rattle.emptied_route.specs.route_cost as route_cost
-pub use Rattle.emptied_route.specs.route_load as route_load
 pub use Rattle.emptied_route.specs.local_search as local_search
 pub use Rattle.emptied_route.specs.reinsertion_worth as reinsertion_worth
 pub use Rattle.emptied_route.specs.elimination_moves as elimination_moves

@@ -1,11 +1,10 @@
 -- The departures and latest arrivals of a route in work cells, before its positions are tried. Assumes nothing.
-use Rattle.std.specs.Prelude.{ℕ, ◌≡◌, Bool, length, take, drop, Float, ℤ}
+use Rattle.std.specs.Prelude.{ℕ, ◌≡◌, Bool, length, take, drop, Float}
 use Rattle.std.proofs.Math.Path.{refl, ap}
 use Rattle.std.proofs.Common.{sym, ◌∙◌, true≢false}
 use Rattle.std.proofs.Math.Bool.{true, false}
 use mathlib.Core.List.{List, []}
 use Rattle.std.specs.Prelude.{Option, None, Some}
-use Rattle.walked_times.specs.models.declared.vehicle.Vehicle.{Vehicle}
 use Rattle.walked_times.specs.models.Problem.{Problem, problem_of}
 use Rattle.walked_times.specs.route_load.Feasible.{constrained}
 use Rattle.walked_times.specs.quick_test.Quick.{Times, times}

@@ -13,49 +13,61 @@ use walked_times::{departures, latest_arrivals};
 
 // Of the crates below, passed on to those above.
 pub use walked_times::{
-    Counts, DistanceMatrix, Fleet, Insertion, Instance, LocalSearchNext, Network, Pick, Reduction,
-    Vehicle, checked, constrained, copy_part, feasible, has_room, insertion_cost, may_fit,
-    next_pick, offset, put_in, rounds, take_out, trial_ok, within_capacity,
+    Counts, Demand, DistanceMatrix, Fleet, Insertion, Instance, LocalSearchNext, Network, Pick,
+    Reduction, Vehicle, checked, constrained, copy_part, feasible, has_room, insertion_cost,
+    may_fit, next_pick, rounds, routes, trial_ok, within_capacity,
 };
 
-// The departures go to the first 256 work cells; false where one of the stops is reached after its window closes.
-fn keep_departures(cells: &mut [f64], route: &[u16], depot: usize, net: &Network) -> bool
-    requires { (depot < net.now.roads.size) × Stops net.now.roads.size route.now × (512 ≤ length cells.old) }
-    ensures { departures net.now.places net.now.roads depot route.now ≡ told result (take (length route.now) cells.new) }
-{
-    departures(&mut cells[0..256], route, depot, net)
+// The times along a route, in work cells: when each stop is left in the first 256 of them, how late each may be reached in the next 256.
+#[derive(Drop)]
+pub struct Times<'a> {
+    pub cells: &'a mut [f64],
+    pub ghost enough: { 512 ≤ length cells.now },
 }
 
-// The latest arrivals go to the next 256 work cells, and the first 256 stay.
-fn keep_latest(cells: &mut [f64], route: &[u16], depot: usize, net: &Network)
-    requires { (depot < net.now.roads.size) × Stops net.now.roads.size route.now × (512 ≤ length cells.old) }
-    ensures { (take (length route.now) (drop 256 cells.new) ≡ latest_arrivals net.now.places net.now.roads depot route.now)
-        × (take (length route.now) cells.new ≡ take (length route.now) cells.old) }
-{
-    latest_arrivals(&mut cells[256..512], route, depot, net);
-}
-
-// Both, unless the departures miss a window.
-fn keep_times(cells: &mut [f64], route: &[u16], depot: usize, net: &Network) -> bool
-    requires { (depot < net.now.roads.size) × Stops net.now.roads.size route.now × (512 ≤ length cells.old) }
-    ensures { with_latest (latest_arrivals net.now.places net.now.roads depot route.now) (departures net.now.places net.now.roads depot route.now)
-        ≡ told result (held (length route.now) cells.new) }
-{
-    if keep_departures(cells, route, depot, net) {
-        keep_latest(cells, route, depot, net);
-        return true;
+impl<'a> Times<'a> {
+    // The departures; false where one of the stops is reached after its window closes.
+    fn keep_departures(&mut self, route: &[u16], depot: usize, net: &Network) -> bool
+        requires home { depot < net.now.roads.size }
+        requires stops { Stops net.now.roads.size route.now }
+        ensures { departures net.now.places net.now.roads depot route.now ≡ told result (take (length route.now) self.new.cells.now) }
+    {
+        departures(&mut self.cells[0..256], route, depot, net)
     }
-    false
-}
 
-// Before the positions of a route are tried: where the check is needed, its departures and latest arrivals go to the work cells, and
-// the answer is false where the departures miss a window. Where it is not needed nothing is done.
-pub fn prepare(cells: &mut [f64], route: &[u16], fleet: &Fleet) -> bool
-    requires { Stops fleet.now.net.roads.size route.now × (512 ≤ length cells.old) }
-    ensures { Prepared (of_fleet fleet.now) route.now result cells.new }
-{
-    if fleet.needed {
-        return keep_times(cells, route, fleet.vehicle.depot_id, &fleet.net);
+    // The latest arrivals; the departures stay.
+    fn keep_latest(&mut self, route: &[u16], depot: usize, net: &Network)
+        requires home { depot < net.now.roads.size }
+        requires stops { Stops net.now.roads.size route.now }
+        ensures latest { take (length route.now) (drop 256 self.new.cells.now) ≡ latest_arrivals net.now.places net.now.roads depot route.now }
+        ensures departures { take (length route.now) self.new.cells.now ≡ take (length route.now) self.old.cells.now }
+    {
+        latest_arrivals(&mut self.cells[256..512], route, depot, net);
     }
-    true
+
+    // Both, unless the departures miss a window.
+    fn keep_times(&mut self, route: &[u16], depot: usize, net: &Network) -> bool
+        requires home { depot < net.now.roads.size }
+        requires stops { Stops net.now.roads.size route.now }
+        ensures { with_latest (latest_arrivals net.now.places net.now.roads depot route.now) (departures net.now.places net.now.roads depot route.now)
+            ≡ told result (held (length route.now) self.new.cells.now) }
+    {
+        if self.keep_departures(route, depot, net) {
+            self.keep_latest(route, depot, net);
+            return true;
+        }
+        false
+    }
+
+    // Before the positions of a route are tried: where the check is needed, its departures and latest arrivals are kept, and the answer is
+    // false where the departures miss a window. Where it is not needed nothing is done.
+    pub fn prepare(&mut self, route: &[u16], fleet: &Fleet) -> bool
+        requires { Stops fleet.now.net.roads.size route.now }
+        ensures { Prepared (of_fleet fleet.now) route.now result self.new.cells.now }
+    {
+        if fleet.needed {
+            return self.keep_times(route, fleet.vehicle.depot_id, &fleet.net);
+        }
+        true
+    }
 }

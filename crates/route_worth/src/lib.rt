@@ -12,8 +12,8 @@ use route_drive::{
 
 // Of the crates below, passed on to those above.
 pub use route_drive::{
-    Customers, DistanceMatrix, Fleet, Instance, Network, Problem, RouteLimits, TimeWindow, Vehicle,
-    has_soft_windows, is_finite, largest, max, penalty_at, total_less, window_at,
+    Customers, Demand, DistanceMatrix, Fleet, Instance, Network, Problem, RouteLimits, TimeWindow,
+    Vehicle, has_soft_windows, is_finite, largest, max, penalty_at, total_less, window_at,
 };
 
 // The evaluation of the route depot, stops, depot.

@@ -13,7 +13,7 @@ use minimise_call::{Vehicle, minimise};
 use sheet_elimination::list_eliminated;
 
 // Of the crates below, passed on to those above.
-pub use minimise_call::{Customers, DistanceMatrix, Problem};
+pub use minimise_call::{Allowance, Customers, DistanceMatrix, Problem};
 pub use sheet_elimination::put_refusal;
 
 // Minimises, then eliminates.
@@ -23,23 +23,21 @@ pub fn list_planned(
     stops: &mut [u16],
     work: &mut [u16],
     cells: &mut [f64],
-    tape: &[u64],
-    limit: u64,
-    clock: u64,
+    allowance: Allowance,
     problem: &Problem,
 ) -> usize
     requires in_bounds { (6000 ≤ length out.old) × (length lengths.old ≤ 64) × (length stops.old ≤ 64) × (length work.old ≡ 8192)
         × (length cells.old ≡ 2048) }
     requires short { Short problem.now.roads.now.size problem.now.roads.now.distances }
-    ensures { Written out.old 0 (planned (sheet_of (of_problem problem.now) (slices_of lengths.old stops.old) tape.now limit clock)) out.new result }
+    ensures { Written out.old 0 (planned (sheet_of (of_problem problem.now) (slices_of lengths.old stops.old) allowance.entry.tape.now allowance.entry.limit allowance.entry.clock)) out.new result }
 {
     let given = lengths.len() as u64;
-    let m = minimise(lengths, stops, work, cells, tape, limit, clock, problem);
+    let m = minimise(lengths, stops, work, cells, allowance, problem);
     match m {
         Ok(d) => {
             let counts = d.counts;
             list_eliminated(out, lengths, stops, work, cells, counts, given, problem)
         }
-        Err(refusal) => put_refusal(out, 0, refusal.number() as u64),
+        Err(refusal) => put_refusal(out, refusal.number() as u64),
     }
 }

@@ -4,11 +4,8 @@
 
 ghost use Rattle.std.specs.Prelude.{◌≡◌, ◌<◌, length, IfSome};
 
-use sheet_print::{listing_room, print_sheet};
+use sheet_print::{STDOUT, listing_room, print_sheet};
 use stored::Numbers;
-
-// Standard output.
-const STDOUT: i32 = 1;
 
 // Room for the sheets.
 fn cases_room() -> [u8; 131072]

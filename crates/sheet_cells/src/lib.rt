@@ -48,5 +48,5 @@ pub fn flags_cell(window: Option<TimeWindow>, penalty: Option<f64>) -> u8
 pub fn stop_cell(c: u32) -> u16
     ensures { result ≡ Form·stop-cell c }
 {
-    if c <= 65535 { c as u16 } else { 65535 }
+    u16::try_from(c).unwrap_or(u16::MAX)
 }

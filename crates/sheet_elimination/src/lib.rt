@@ -11,6 +11,7 @@ ghost use Rattle.eliminate_call.specs.models.Lent.{of_problem};
 
 use eliminate_call::{Counts, Problem, Vehicle, eliminate};
 use listing_whole::put_listing;
+use listing_whole::routes::Routes;
 
 // Of the crates below, passed on to those above.
 pub use listing_whole::put_refusal;
@@ -33,7 +34,10 @@ pub fn list_eliminated(
 {
     let e = eliminate(lengths, stops, work, cells, problem);
     match e {
-        Ok(d) => put_listing(out, lengths, stops, d.routes, counts, given, problem),
-        Err(refusal) => put_refusal(out, 0, refusal.number() as u64),
+        Ok(d) => {
+            let routes = Routes { lengths, stops };
+            put_listing(out, &routes, d.routes, counts, given, problem)
+        }
+        Err(refusal) => put_refusal(out, refusal.number() as u64),
     }
 }

@@ -1,8 +1,9 @@
-// The fields of a line: a number, one that may be negative, one that may be none, each with the byte behind it.
+// The fields of a line: a number, one that may be negative, one that may be none; and a field with the byte behind it.
 #![tactic(auto)]
 
 ghost use Rattle.std.specs.Prelude.{◌≡◌};
-ghost use Rattle.sheet_text.specs.Text.{before};
+ghost use Rattle.std.specs.Fn.{FnOnceReturnsAtMut};
+ghost use Rattle.sheet_text.specs.Text.{before as Text·before};
 ghost use Rattle.sheet_text.specs.Text.{number as Text·number, signed as Text·signed, optional as Text·optional};
 ghost use Rattle.sheet_text.specs.Told.{Reads, told, given};
 
@@ -13,26 +14,30 @@ pub use sheet_text::numbers::{byte, number as sheet_text_number, peek};
 pub use sheet_text::words::ending;
 pub use sheet_text::{Refusal, Text};
 
-// What was read, and the byte behind it.
-pub fn behind<T: Copy>(text: &mut Text<'_>, read: Result<T, Refusal>, b: u8) -> Result<T, Refusal>
-    ensures { Reads (before b (given read)) text.old (told result) text.new }
+// What `read` reads, and the byte behind it.
+pub fn before<T: Copy, F: FnOnce(&mut Text<'_>) -> Result<T, Refusal>>(
+    text: &mut Text<'_>,
+    read: F,
+    b: u8,
+) -> Result<T, Refusal>
+    requires { F.IsAlwaysCallable read }
+    ensures { (r : _) × (mid : _) × FnOnceReturnsAtMut F.FnOnce read text.old r mid × Reads (Text·before b (given r)) mid (told result) text.new }
 {
-    let v = read?;
+    let v = read(text)?;
     byte(text, b)?;
     Ok(v)
 }
 
 // A number and the byte behind it.
 pub fn number_before(text: &mut Text<'_>, b: u8) -> Result<u32, Refusal>
-    ensures { Reads (before b Text·number) text.old (told result) text.new }
+    ensures { Reads (Text·before b Text·number) text.old (told result) text.new }
 {
-    let v = number(text);
-    behind(text, v, b)
+    before(text, number, b)
 }
 
 // A number that may have a minus sign before it.
 #[tactic(auto, using(sheet_text::proofs::ReadLaws::reads), unfolding(sheet_text::specs::Text::signed))]
-fn signed(text: &mut Text<'_>) -> Result<i32, Refusal>
+pub fn signed(text: &mut Text<'_>) -> Result<i32, Refusal>
     ensures { Reads Text·signed text.old (told result) text.new }
 {
     if peek(text) == b'-' as u16 {
@@ -44,17 +49,9 @@ fn signed(text: &mut Text<'_>) -> Result<i32, Refusal>
     Ok(v as i32)
 }
 
-// The same, and the byte behind it.
-pub fn signed_before(text: &mut Text<'_>, b: u8) -> Result<i32, Refusal>
-    ensures { Reads (before b Text·signed) text.old (told result) text.new }
-{
-    let v = signed(text);
-    behind(text, v, b)
-}
-
 // A number, or a lone minus sign.
 #[tactic(auto, using(sheet_text::proofs::ReadLaws::reads), unfolding(sheet_text::specs::Text::optional))]
-fn optional(text: &mut Text<'_>) -> Result<Option<u32>, Refusal>
+pub fn optional(text: &mut Text<'_>) -> Result<Option<u32>, Refusal>
     ensures { Reads Text·optional text.old (told result) text.new }
 {
     if peek(text) == b'-' as u16 {
@@ -68,12 +65,4 @@ fn optional(text: &mut Text<'_>) -> Result<Option<u32>, Refusal>
     }
     let v = number(text)?;
     Ok(Some(v))
-}
-
-// The same, and the byte behind it.
-pub fn optional_before(text: &mut Text<'_>, b: u8) -> Result<Option<u32>, Refusal>
-    ensures { Reads (before b Text·optional) text.old (told result) text.new }
-{
-    let v = optional(text);
-    behind(text, v, b)
 }

@@ -21,11 +21,15 @@ abbrev pub float_of : Option ℕ → Option Float
 float_of None = None
 float_of (Some n) = Some (nat n)
 
--- a limit, and the byte b behind it
-unfoldable pub limit : ℕ → Parser (Option Float)
-limit b = do
-  most ← before b optional
-  pure (float_of most)
+-- the same, and the byte b behind it
+unfoldable pub optional_float_before : ℕ → Parser (Option Float)
+optional_float_before b = do
+  n ← before b optional
+  pure (float_of n)
+
+-- a limit, and the byte behind it
+abbrev pub limit : ℕ → Parser (Option Float)
+limit = optional_float_before
 
 -- "capacity, depot, fixed, cost per distance, distance limit, duration limit". "The depot is place 0."
 unfoldable pub vehicle_line : Parser Vehicle
@@ -71,10 +75,8 @@ window =
       pure (Some (record { ready = nat ready; due = nat due })))
 
 -- PENALTY, the last of its line
-unfoldable pub penalty : Parser (Option Float)
-penalty = do
-  p ← before lf optional
-  pure (float_of p)
+abbrev pub penalty : Parser (Option Float)
+penalty = optional_float_before lf
 
 -- "demand, service, READY, DUE, PENALTY"
 unfoldable pub place : Parser Place

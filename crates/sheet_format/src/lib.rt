@@ -7,6 +7,6 @@ pub mod places;
 pub use models::customer::TimeWindow;
 pub use models::vehicle::{Vehicle, VehicleBreak};
 pub use sheet_fields::{
-    Refusal, Text, byte, ending, number_before, optional_before, sheet_text_number, signed_before,
+    Refusal, Text, before, byte, ending, number_before, sheet_text_number, signed,
 };
 pub use sheet_headings::heading;

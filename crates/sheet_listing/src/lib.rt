@@ -35,7 +35,7 @@ pub fn list_read(
     match sheet(
         lengths, stops, tape, demand, service, ready, due, penalty, flags, distances, times, text,
     ) {
-        Err(refusal) => put_refusal(out, 0, refusal.number() as u64),
+        Err(refusal) => put_refusal(out, refusal.number() as u64),
         Ok((read, _)) => {
             let asked = read.request;
             list_parts(

@@ -8,7 +8,7 @@ ghost use Rattle.sheet_calls.specs.listing.Written.{Written};
 ghost use Rattle.sheet_calls.specs.sheet_laws.Short.{Short};
 ghost use Rattle.sheet_calls.specs.sheet_answers.Printed.{planned};
 
-use sheet_calls::{Customers, DistanceMatrix, Problem, list_planned};
+use sheet_calls::{Allowance, Customers, DistanceMatrix, Problem, list_planned};
 use sheet_whole::Head;
 
 // Of the crates below, passed on to those above.
@@ -77,9 +77,11 @@ pub fn list_parts(
         &mut stops[..used],
         work,
         cells,
-        &tape[..draws],
-        limit as u64,
-        clock,
+        Allowance {
+            tape: &tape[..draws],
+            limit: limit as u64,
+            clock,
+        },
         &problem,
     )
 }

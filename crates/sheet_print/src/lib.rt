@@ -7,8 +7,8 @@ ghost use Rattle.sheet_planner.specs.Output.{into};
 
 use sheet_planner::plan_sheet;
 
-// Standard output.
-const STDOUT: i32 = 1;
+// The handle of standard output.
+pub const STDOUT: i32 = 1;
 
 // Room for what is printed.
 pub fn listing_room() -> [u8; 6000]

@@ -3,11 +3,10 @@
 
 ghost use Rattle.std.specs.Prelude.{◌≡◌};
 ghost use Rattle.sheet_format.specs.sheet_text.Told.{Reads, told};
-ghost use Rattle.sheet_format.specs.Form.{limit as Form·limit, vehicle_line};
-ghost use Rattle.sheet_format.specs.Form.{vehicle as Form·vehicle};
+ghost use Rattle.sheet_format.specs.Form.{vehicle_line, vehicle as Form·vehicle};
 
-use sheet_format::places::float_of;
-use sheet_format::{heading, number_before, optional_before, signed_before};
+use sheet_format::places::optional_float_before;
+use sheet_format::{before, heading, sheet_text_number as number, signed};
 
 // Of the crates below, passed on to those above.
 pub use sheet_format::{Refusal, Text, Vehicle};
@@ -15,29 +14,20 @@ pub use sheet_format::{Refusal, Text, Vehicle};
 // Every sheet's depot.
 const DEPOT: u32 = 0;
 
-// A limit, and the byte behind it.
-#[tactic(auto, using(crate::proofs::Readers::readers), unfolding(sheet_format::specs::Form::limit))]
-fn limit(text: &mut Text<'_>, b: u8) -> Result<Option<f64>, Refusal>
-    ensures { Reads (Form·limit b) text.old (told result) text.new }
-{
-    let most = optional_before(text, b)?;
-    Ok(float_of(most))
-}
-
 // The vehicle's line.
 #[tactic(auto, using(crate::proofs::Readers::readers), unfolding(sheet_format::specs::Form::vehicle_line))]
 fn vehicle_line(text: &mut Text<'_>) -> Result<Vehicle, Refusal>
     ensures { Reads vehicle_line text.old (told result) text.new }
 {
-    let capacity = signed_before(text, b' ')?;
-    let depot = number_before(text, b' ')?;
+    let capacity = before(text, signed, b' ')?;
+    let depot = before(text, number, b' ')?;
     if depot != DEPOT {
         return Err(Refusal::SheetForm);
     }
-    let fixed = number_before(text, b' ')?;
-    let per = number_before(text, b' ')?;
-    let max_distance = limit(text, b' ')?;
-    let max_duration = limit(text, b'\n')?;
+    let fixed = before(text, number, b' ')?;
+    let per = before(text, number, b' ')?;
+    let max_distance = optional_float_before(text, b' ')?;
+    let max_duration = optional_float_before(text, b'\n')?;
     Ok(Vehicle {
         capacity,
         depot_id: 0,

@@ -1,4 +1,6 @@
 -- What the contracts of this crate cite.
+-- row 6 in code: the stops so far, marked
+pub mod Marks
 -- crates below, passed on to those above
 pub use Rattle.length_checks.specs.labels as labels
 pub use Rattle.length_checks.specs.break_clock as break_clock

@@ -4,8 +4,8 @@
 ghost use Rattle.std.specs.Prelude.{◌≡◌, [], ◌∷◌, ◌++◌, true, not, eqb};
 ghost use Rattle.length_checks.specs.laws.Searches.{any};
 ghost use Rattle.length_checks.specs.models.Problem.{of_distances};
-ghost use Rattle.length_checks.specs.entry.Marks.{Marks};
 ghost use Rattle.length_checks.specs.entry.Table.{stop_passes, stops_pass};
+ghost use Rattle.stop_checks.specs.Marks.{Marks};
 
 use length_checks::Vehicle;
 
@@ -15,33 +15,24 @@ pub use length_checks::{
     route_cost_gain_floor, route_cost_route_distance,
 };
 
-// Whether x is one of the stops.
-fn contains(stops: &[u16], x: u16) -> bool
-    ensures { result ≡ any (eqb x) stops.now }
-{
-    stops.iter().any(|stop| x == *stop)
-}
-
 // Whether c is none of the stops before it, which are marked in a cell for each place; c is then marked too. A number from 256 on has no cell
 // and is compared with each of them. No call comes to that: row 1 refuses more than 256 places.
-fn mark_new(seen: &mut [u8], before: &[u16], c: u16) -> bool
+fn mark_new(seen: &mut [bool], before: &[u16], c: u16) -> bool
     requires { Marks seen.old before.now }
     ensures new { result ≡ not (any (eqb c) before.now) }
     ensures marks { Marks seen.new (before.now ++ c ∷ []) }
 {
     let at = c as usize;
     if at >= 256 {
-        return !contains(before, c);
+        return !before.contains(&c);
     }
-    if seen[at] != 0 {
-        return false;
-    }
-    seen[at] = 1;
-    true
+    let new = !seen[at];
+    seen[at] = true;
+    new
 }
 
 // Whether c is a place, not the depot, and none of the stops before it, which are marked; if so c is marked too.
-fn stop_passes(seen: &mut [u8], n: usize, vehicle: Vehicle, before: &[u16], c: u16) -> bool
+fn stop_passes(seen: &mut [bool], n: usize, vehicle: Vehicle, before: &[u16], c: u16) -> bool
     requires { Marks seen.old before.now }
     ensures value { result ≡ stop_passes (of_distances n [] vehicle) before.now c }
     ensures marks { result ≡ true → Marks seen.new (before.now ++ c ∷ []) }
@@ -56,7 +47,7 @@ fn stop_passes(seen: &mut [u8], n: usize, vehicle: Vehicle, before: &[u16], c: u
 pub fn stops_pass(n: usize, vehicle: Vehicle, stops: &[u16]) -> bool
     ensures { result ≡ stops_pass (of_distances n [] vehicle) stops.now }
 {
-    let mut seen = [0u8; 256];
+    let mut seen = [false; 256];
     for i in 0..stops.len() {
         if !stop_passes(&mut seen, n, vehicle, &stops[..i], stops[i]) {
             return false;

@@ -1,51 +1,55 @@
 -- The check of a route of a plan in two slices, and two stops exchanged in it: laws from the facts that the code has where it needs them.
 -- Assumes nothing.
-use Prim.Native.Nat.{ℕ, ◌+◌, ◌-◌, ◌≤◌, ◌<◌}
-use native.Mathlib.Nat.{le_of_lt}
+use Prim.Native.Nat.{ℕ, ◌+◌, ◌*◌, ◌-◌, ◌≤◌, ◌<◌}
 use native.Mathlib.Omega.{arith}
 use mathlib.Core.Path.{◌≡◌, refl, sym, ap, ◌∙◌}
 use mathlib.Core.Bool.{Bool, true, false, ◌&&◌}
 use mathlib.Core.List.{List, []}
 use lib.ListN.{length, get_or, take, drop}
 use lib.IntN.{ℤ}
-use lib.Ieee.{Float}
 use mir.Syntax.{w64}
 use mir.Val.{Fits}
-use borrow.Author.Rules.{rules}
 use Rattle.perturbation.specs.models.declared.vehicle.Vehicle.{Vehicle}
 use Rattle.perturbation.specs.models.Problem.{Problem, of_demand, Stops, problem_of}
-use Rattle.exchanged_stops.specs.plan.Plan.{Plan, Lent, HasStop, split, route, offset, exchange_stops}
+use Rattle.exchanged_stops.specs.laws.All.{all_get}
+use Rattle.exchanged_stops.specs.plan.Plan.{Plan, HasStop, route, total, offset, exchange_stops}
+use Rattle.exchanged_stops.specs.plan.Slices.{length_split, route_within, route_part, stop_route}
+use Rattle.exchanged_stops.specs.plan.Given.{plan_of, Becomes}
+use Rattle.exchanged_stops.specs.PlanRoutes.{Routes}
 use Rattle.exchanged_stops.specs.PlanExchanges.{occurs_exchange_stops, number_exchange_stops, first_stop_still, second_stop_still, exchange_stops_twice}
 use Rattle.perturbation.specs.route_load.Feasible.{load, fits, checked, feasible}
 use Rattle.perturbation.specs.local_search.Planned.{Planned, planned_stops, planned_as}
-use Rattle.perturbation.specs.RouteCostVisitLaws.{Visiting, part_end, part_end_fits, part_length_fits, part_is, part_stops}
 use Rattle.perturbation.specs.Perturb.{stands, try_exchange}
 
 -- ---- route k, which begins at `at`
 
-module _ (n : ℕ) (ls s : List ℕ) (k at : ℕ) (l : Lent ls s) (r : Planned n (split ls s)) (h : k < length ls) (e : at ≡ offset ls k) where
-  here : Visiting n ls s at k
-  here = record { lent = l; routes = planned_stops n (split ls s) r; within = le_of_lt h; begins = e }
+module _ (n : ℕ) (r : Routes) (k at : ℕ) (h : k < length r.lengths.now) (e : at ≡ offset r.lengths.now k) (p : Planned n (plan_of r)) where
+  part_is : take (at + get_or r.lengths.now k 0 - at) (drop at r.stops.now) ≡ route k (plan_of r)
+  part_is = route_part r.lengths.now r.stops.now k at (at + get_or r.lengths.now k 0) e refl
 
-  pub route_end : at + get_or ls k 0 ≤ length s
-  route_end = part_end n ls s at k here h
+  pub route_end : at + get_or r.lengths.now k 0 ≤ length r.stops.now
+  route_end = omega (arith, e, r.lent.inside, route_within r.lengths.now k h)
 
-  pub route_end_fits : Fits w64 (at + get_or ls k 0)
-  route_end_fits = part_end_fits n ls s at k here h
+  pub route_end_fits : Fits w64 (at + get_or r.lengths.now k 0)
+  route_end_fits = record { fits = omega (arith, route_end, r.lent.few) }
 
-  pub route_length_fits : Fits w64 (get_or ls k 0)
-  route_length_fits = part_length_fits n ls s at k here h
+  pub route_doubled : Fits w64 (at * 2)
+  route_doubled = record { fits = omega (arith, route_end, r.lent.few) }
 
-  pub route_stops : Stops n (take (at + get_or ls k 0 - at) (drop at s))
-  route_stops = part_stops n ls s at k here h
+  pub route_stops : Stops n (take (at + get_or r.lengths.now k 0 - at) (drop at r.stops.now))
+  route_stops = rw part_is (all_get k [] (planned_stops n (plan_of r) p) (rw (length_split r.lengths.now r.stops.now) h))
 
-  pub route_within : (p : Problem) (v : Bool) → v ≡ fits p (load p.demand (take (at + get_or ls k 0 - at) (drop at s))) → v ≡ fits p (load p.demand (route k (split ls s)))
-  route_within p v f = f ∙ ap (λ (r : List ℕ). fits p (load p.demand r)) (part_is n ls s at k here h)
+  pub route_fits : (demand : List ℤ) (vehicle : Vehicle) (v : Bool)
+      → v ≡ fits (of_demand demand vehicle) (load demand (take (at + get_or r.lengths.now k 0 - at) (drop at r.stops.now)))
+      → v ≡ fits (of_demand demand vehicle) (load demand (route k (plan_of r)))
+  route_fits demand vehicle v f =
+      f ∙ ap (λ (r : List ℕ). fits (of_demand demand vehicle) (load demand r)) part_is
 
-  pub route_checked : (p : Problem) (v : Bool) → v ≡ checked p (take (at + get_or ls k 0 - at) (drop at s)) → v ≡ checked p (route k (split ls s))
-  route_checked p v f = f ∙ ap (λ (r : List ℕ). checked p r) (part_is n ls s at k here h)
+  pub route_checked : (p : Problem) (v : Bool) → v ≡ checked p (take (at + get_or r.lengths.now k 0 - at) (drop at r.stops.now))
+      → v ≡ checked p (route k (plan_of r))
+  route_checked p v f = f ∙ ap (λ (r : List ℕ). checked p r) part_is
 
-pub ruleset route_laws = (rules, route_end, route_end_fits, route_length_fits, route_stops)
+pub ruleset route_laws = (route_end, route_end_fits, route_doubled, route_stops, route_fits, route_checked)
 
 -- ---- two routes stand where both loads are within capacity and both pass the check
 
@@ -80,31 +84,47 @@ pub ruleset stands_laws = (first_heavy, second_heavy, first_fails, second_decide
 
 -- ---- two stops exchanged, and then exchanged back or not
 
-module _ (n : ℕ) (ls s : List ℕ) (a i b j : ℕ) (l : Lent ls s) (r : Planned n (split ls s)) (d : a ≡ b → ⊥)
-    (f : HasStop (split ls s) a i) (g : HasStop (split ls s) b j) (s₁ : List ℕ) (e : split ls s₁ ≡ exchange_stops a i b j (split ls s)) where
-  pub exchanged_lent : length s₁ ≡ length s → Lent ls s₁
-  exchanged_lent k = record { inside = omega (arith, l.inside); few = omega (arith, l.few) }
+module _ (n : ℕ) (old mid : Routes) (a i b j : ℕ) (e : Becomes old (exchange_stops a i b j (plan_of old)) (total old.lengths.now) mid)
+    (d : a ≡ b → ⊥) (f : HasStop (plan_of old) a i) (g : HasStop (plan_of old) b j) where
+  pub exchanged_first_in : a < length mid.lengths.now
+  exchanged_first_in = omega (arith, e.kept.count, stop_route old.lengths.now old.stops.now a i f)
 
-  pub exchanged_planned : Planned n (split ls s₁)
-  exchanged_planned =
-      rw e
-      (planned_as n (split ls s) (exchange_stops a i b j (split ls s))
-      (omega (arith, number_exchange_stops a i b j (split ls s) d f.there g.there))
-      (λ c. occurs_exchange_stops a i b j (split ls s) d c f.there g.there f.within g.within) r)
+  pub exchanged_second_in : b < length mid.lengths.now
+  exchanged_second_in = omega (arith, e.kept.count, stop_route old.lengths.now old.stops.now b j g)
 
-  pub exchanged_first : HasStop (split ls s₁) a i
-  exchanged_first = rw e (first_stop_still a i b j (split ls s) d f.there g.there f.within)
+  pub exchanged_planned : Planned n (plan_of old) → Planned n (plan_of mid)
+  exchanged_planned r =
+      rw e.routes
+      (planned_as n (plan_of old) (exchange_stops a i b j (plan_of old))
+      (omega (arith, number_exchange_stops a i b j (plan_of old) d f.there g.there))
+      (λ c. occurs_exchange_stops a i b j (plan_of old) d c f.there g.there f.within g.within) r)
 
-  pub exchanged_second : HasStop (split ls s₁) b j
-  exchanged_second = rw e (second_stop_still a i b j (split ls s) d f.there g.there g.within)
+  pub exchanged_first : HasStop (plan_of mid) a i
+  exchanged_first = rw e.routes (first_stop_still a i b j (plan_of old) d f.there g.there f.within)
 
-  module _ (p : Problem) (v : Bool) (ev : v ≡ stands p a b (split ls s₁)) where
-    pub exchange_stays : v ≡ true → split ls s₁ ≡ try_exchange p a i b j (split ls s)
+  pub exchanged_second : HasStop (plan_of mid) b j
+  exchanged_second = rw e.routes (second_stop_still a i b j (plan_of old) d f.there g.there g.within)
+
+  module _ (p : Problem) (v : Bool) (ev : v ≡ stands p a b (plan_of mid)) where
+    pub exchange_stays : v ≡ true → Becomes old (try_exchange p a i b j (plan_of old)) (total old.lengths.now) mid
     unfolding try_exchange
-    exchange_stays t = e ∙ rw (← e, ← ev, t)
+    exchange_stays t = record { routes = e.routes ∙ rw (← e.routes, ← ev, t); sum = e.sum; kept = e.kept }
 
-    pub exchange_undone : (s₂ : List ℕ) → v ≡ false → split ls s₂ ≡ exchange_stops a i b j (split ls s₁) → split ls s₂ ≡ try_exchange p a i b j (split ls s)
+    pub exchange_undone : (new : Routes) → v ≡ false → Becomes mid (exchange_stops a i b j (plan_of mid)) (total mid.lengths.now) new
+        → Becomes old (try_exchange p a i b j (plan_of old)) (total old.lengths.now) new
     unfolding try_exchange
-    exchange_undone s₂ t u =
-        u ∙ ap (exchange_stops a i b j) e ∙ exchange_stops_twice a i b j (split ls s) d f.there g.there f.within g.within
-        ∙ rw (← e, ← ev, t)
+    exchange_undone new t u =
+        record {
+          routes = u.routes ∙ ap (exchange_stops a i b j) e.routes ∙ exchange_stops_twice a i b j (plan_of old) d f.there g.there f.within g.within
+              ∙ rw (← e.routes, ← ev, t);
+          sum = u.sum ∙ e.sum;
+          kept =
+              record {
+                same_lengths = u.kept.same_lengths ∙ e.kept.same_lengths;
+                same_stops = u.kept.same_stops ∙ e.kept.same_stops;
+                count = u.kept.count ∙ e.kept.count;
+                room = u.kept.room ∙ e.kept.room;
+              };
+        }
+
+pub ruleset exchanged_laws = (exchanged_first_in, exchanged_second_in, exchanged_planned, exchanged_first, exchanged_second, exchange_stays, exchange_undone)

@@ -10,5 +10,4 @@ pub use Rattle.perturbation.specs as perturbation
 -- and their laws
 pub use Rattle.exchanged_stops.specs.PlanExchanges as PlanExchanges
 pub use Rattle.exchanged_stops.specs.PlanPlanLaws as PlanPlanLaws
-pub use Rattle.perturbation.specs.RouteLoadFeasibleLaws as RouteLoadFeasibleLaws
 pub use Rattle.perturbation.proofs.MoveDraws as PerturbationMoveDraws

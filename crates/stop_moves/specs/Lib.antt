@@ -9,14 +9,10 @@ pub use Rattle.reinsertion.specs.models as models
 pub use Rattle.reinsertion.specs.plan as plan
 pub use Rattle.reinsertion.specs.route_order as route_order
 pub use Rattle.reinsertion.specs.route_cost as route_cost
-pub use Rattle.reinsertion.specs.route_load as route_load
 pub use Rattle.reinsertion.specs.local_search as local_search
 pub use Rattle.reinsertion.specs.reinsertion_worth as reinsertion_worth
-pub use Rattle.reinsertion.specs.reinsertion_candidates as reinsertion_candidates
 pub use Rattle.elimination_moves.specs as elimination_moves
 -- and their laws
-pub use Rattle.reinsertion.specs.RouteCostVisitLaws as RouteCostVisitLaws
-pub use Rattle.reinsertion.specs.RouteLoadFeasibleLaws as RouteLoadFeasibleLaws
 pub use Rattle.reinsertion.specs.LocalSearchNextLaws as LocalSearchNextLaws
 pub use Rattle.reinsertion.specs.LocalSearchRoundLaws as LocalSearchRoundLaws
 pub use Rattle.reinsertion.specs.LocalSearchSearchLaws as LocalSearchSearchLaws

@@ -1,6 +1,6 @@
 -- The stops of a route moved one after the other: what the code keeps between them, and that the place found lies in the plan and does not
 -- reach the cut. Assumes nothing.
-use Rattle.std.specs.Prelude.{ℕ, suc, ◌+◌, ◌≤◌, ◌≡◌, Bool, false, length, take, Float}
+use Rattle.std.specs.Prelude.{ℕ, suc, ◌+◌, ◌≤◌, ◌≡◌, false, length, Float}
 use native.Mathlib.Omega.{arith}
 use Rattle.std.proofs.Math.Path.{refl, ap}
 use Rattle.std.proofs.Common.{sym, ◌∙◌, subst}
@@ -11,11 +11,13 @@ use Rattle.reinsertion.specs.floats.Binary64.{◌⊕◌}
 use Rattle.reinsertion.specs.laws.Loops.{loop_rule, cond_rule, foldl}
 use Rattle.reinsertion.specs.laws.All.{All}
 use Rattle.reinsertion.specs.models.Problem.{Problem, Admitted, Stops}
-use Rattle.reinsertion.specs.plan.Plan.{Plan, route, split, total, Lent, HasPosition, put_in}
+use Rattle.reinsertion.specs.plan.Plan.{Plan, route, total, HasPosition, put_in}
+use Rattle.reinsertion.specs.plan.Given.{plan_of}
+use Rattle.reinsertion.specs.plan.declared.routes.Routes.{Routes}
 use Rattle.reinsertion.specs.local_search.Options.{bind, then_some, Each}
 use Rattle.reinsertion.specs.route_cost.declared.Insertion.{Insertion}
-use Rattle.reinsertion.specs.route_load.Feasible.{constrained, has_room}
-use Rattle.reinsertion.specs.reinsertion_worth.Worth.{soft, insertion_worth}
+use Rattle.reinsertion.specs.route_load.Feasible.{has_room}
+use Rattle.reinsertion.specs.reinsertion_worth.Worth.{insertion_worth}
 use Rattle.reinsertion.specs.reinsertion_candidates.Candidates.{candidates, by_cost, first_passing}
 use Rattle.elimination_moves.specs.Eliminate.{Moved, move_to, move_stop}
 use Rattle.reinsertion.specs.reinsertion_candidates.Place.{counts, comes_first, settles, look_at, look_through, look_over, unless_cut}
@@ -48,27 +50,23 @@ module _ (p : Problem) (saved : Float) where
   unfolding move_on foldl
   move_on_end m = refl
 
--- what the code asks while m stops are left to be moved: there is room for each of them
-pub record Waiting (p : Problem) (s needed : Bool) (lengths stops left : List ℕ) (m : ℕ) : Type 0 where
+-- what the code asks while stops are left to be moved: there is room for each of them
+pub record Waiting (p : Problem) (lent : Routes) (left : List ℕ) : Type 0 where
   pub admitted : Admitted p
-  pub soft_told : s ≡ soft p
-  pub needed_told : needed ≡ constrained p
-  pub lent : Lent lengths stops
-  pub routes : All (Stops p.roads.size) (split lengths stops)
-  pub few : total lengths + m ≤ 256
-  pub free : total lengths + m ≤ length stops
-  pub there : m ≤ length left
-  pub places : Stops p.roads.size (take m left)
+  pub routes : All (Stops p.roads.size) (plan_of lent)
+  pub few : total lent.lengths.now + length left ≤ 256
+  pub free : total lent.lengths.now + length left ≤ length lent.stops.now
+  pub places : Stops p.roads.size left
 
--- two slices with a plan of k stops
-pub record Grown (n k : ℕ) (lengths stops : List ℕ) : Type 0 where
-  pub sum : total lengths ≡ k
-  pub routes : All (Stops n) (split lengths stops)
+-- lent routes with a plan of k stops
+pub record Grown (n k : ℕ) (lent : Routes) : Type 0 where
+  pub sum : total lent.lengths.now ≡ k
+  pub routes : All (Stops n) (plan_of lent)
 
 -- so they are left where each stop has found a place
-abbrev pub Kept : ℕ → Option Float → ℕ → List ℕ → List ℕ → Type 0
-Kept n None k lengths stops = Unit
-Kept n (Some added) k lengths stops = Grown n k lengths stops
+abbrev pub Kept : ℕ → Option Float → ℕ → Routes → Type 0
+Kept n None k lent = Unit
+Kept n (Some added) k lent = Grown n k lent
 
 -- ---- the place found
 

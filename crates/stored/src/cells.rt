@@ -63,11 +63,7 @@ impl FromNumber for i32 {
     ghost from_number = { signed };
 
     fn from_number(number: u64) -> Option<i32> {
-        if number < 0x1_0000_0000 {
-            Some(int_of(number))
-        } else {
-            None
-        }
+        u32::try_from(number).ok().map(int_of)
     }
 }
 

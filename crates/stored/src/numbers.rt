@@ -17,12 +17,9 @@ fn is_blank(byte: u8) -> bool {
 fn run_len(text: &[u8], blank: bool) -> usize
     ensures { result ≤ length text.now }
 {
-    for i in 0..text.len() {
-        if is_blank(text[i]) != blank {
-            return i;
-        }
-    }
-    text.len()
+    text.iter()
+        .position(|byte| is_blank(*byte) != blank)
+        .unwrap_or(text.len())
 }
 
 // The text behind the blanks at its start.
@@ -88,8 +85,8 @@ impl<'a> Numbers<'a> {
     {
         let count = self.at_most(room.len() as u64)?;
         let part = &mut room[..count as usize];
-        for i in 0..part.len() {
-            part[i] = self.read()?;
+        for cell in part.iter_mut() {
+            *cell = self.read()?;
         }
         Some(part)
     }

@@ -51,25 +51,13 @@ impl From<Refusal> for Stored {
 pub fn of_checked(answer: Result<bool, Refusal>) -> Stored
     ensures { result ≡ checked_stored (told answer) }
 {
-    match answer {
-        Ok(passes) => {
-            if passes {
-                short(1, 1, 0, 0)
-            } else {
-                short(1, 0, 0, 0)
-            }
-        }
-        Err(refusal) => refusal.into(),
-    }
+    answer.map_or_else(Stored::from, |passes| short(1, u64::from(passes), 0, 0))
 }
 
 pub fn of_number(answer: Result<f64, Refusal>) -> Stored
     ensures { result ≡ number_stored (told answer) }
 {
-    match answer {
-        Ok(x) => short(1, bits_of(x), 0, 0),
-        Err(refusal) => refusal.into(),
-    }
+    answer.map_or_else(Stored::from, |x| short(1, bits_of(x), 0, 0))
 }
 
 // An evaluation with a break or without.
@@ -107,20 +95,14 @@ fn of_eval(eval: Option<RouteEval>) -> Stored
 {
     match eval {
         None => short(1, 0, 0, 0),
-        Some(worth) => {
-            let rest = worth.rest;
-            of_route(worth, rest)
-        }
+        Some(worth) => of_route(worth, worth.rest),
     }
 }
 
 pub fn of_evaluated(answer: Result<Option<RouteEval>, Refusal>) -> Stored
     ensures { result ≡ evaluated_stored (told answer) }
 {
-    match answer {
-        Ok(eval) => of_eval(eval),
-        Err(refusal) => refusal.into(),
-    }
+    answer.map_or_else(Stored::from, of_eval)
 }
 
 pub fn of_window(window: Option<TimeWindow>) -> Stored
@@ -135,11 +117,7 @@ pub fn of_window(window: Option<TimeWindow>) -> Stored
 pub fn of_replied(answer: Result<Reduction, Refusal>) -> Stored
     ensures { result ≡ reply_stored (told answer) }
 {
-    match answer {
-        Ok(done) => {
-            let counts = done.counts;
-            short(1, done.routes as u64, counts.steps, counts.draws)
-        }
-        Err(refusal) => refusal.into(),
-    }
+    answer.map_or_else(Stored::from, |done| {
+        short(1, done.routes as u64, done.counts.steps, done.counts.draws)
+    })
 }

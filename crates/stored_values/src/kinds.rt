@@ -38,19 +38,7 @@ impl Kind {
     pub fn of(number: u64) -> Option<Kind>
         ensures { result ≡ slice_get kinds number }
     {
-        match number {
-            0 => Some(Kind::Minimise),
-            1 => Some(Kind::Eliminate),
-            2 => Some(Kind::RouteFeasible),
-            3 => Some(Kind::RouteEval),
-            4 => Some(Kind::EffectiveCost),
-            5 => Some(Kind::Schedule),
-            6 => Some(Kind::RouteDistance),
-            7 => Some(Kind::LatenessBound),
-            8 => Some(Kind::GainFloor),
-            9 => Some(Kind::TimeWindowNew),
-            _ => None,
-        }
+        Kind::ALL.get(number as usize).copied()
     }
 
     // The number of a kind.

@@ -1,7 +1,7 @@
 // The values that stored numbers stand for: a float by its bits, a signed number by its two's complement, a kind of call by its number.
 #![tactic(auto)]
 
-ghost use Rattle.std.specs.Prelude.{◌≡◌, ◌<◌, ◌^◌};
+ghost use Rattle.std.specs.Prelude.{◌≡◌};
 ghost use Rattle.std.specs.Float.{binary64};
 ghost use Rattle.std.specs.Float.Ieee.{of_bits, to_bits};
 ghost use Rattle.std.proofs.Common.{to_z};
@@ -17,7 +17,7 @@ pub fn float_of(bits: u64) -> f64
     ensures { result ≡ of_bits binary64 bits }
 {
     if bits % 0x8000_0000_0000_0000 > 0x7ff0_0000_0000_0000 {
-        return 0.0 / 0.0;
+        return f64::NAN;
     }
     f64::from_bits(bits)
 }
@@ -27,19 +27,15 @@ pub fn float_of(bits: u64) -> f64
 pub fn bits_of(x: f64) -> u64
     ensures { result ≡ to_bits binary64 x }
 {
-    if x != x {
+    if x.is_nan() {
         return 0x7ff8_0000_0000_0000;
     }
-    f64::to_bits(x)
+    x.to_bits()
 }
 
 // The signed number of a two's complement.
-pub fn int_of(bits: u64) -> i32
-    requires { bits < 2 ^ 32 }
+pub fn int_of(bits: u32) -> i32
     ensures { result ≡ to_z w32 bits }
 {
-    if bits < 0x8000_0000 {
-        return bits as i32;
-    }
-    !((0xffff_ffff - bits) as i32)
+    bits.cast_signed()
 }

@@ -2,13 +2,12 @@
 use Prim.Native.Nat.{ℕ}
 use mathlib.Core.Path.{◌≡◌, refl, sym, ap, ◌∙◌}
 use mathlib.Core.Bool.{Bool, true, false, cond, ◌&&◌}
-use mathlib.Core.List.{List, ◌++◌}
+use mathlib.Core.List.{◌++◌}
 use lib.ListN.{take, drop}
-use lib.IntN.{ℤ}
-use lib.Ieee.{Float}
-use Rattle.joined_tails.specs.models.declared.vehicle.Vehicle.{Vehicle}
 use Rattle.joined_tails.specs.models.Problem.{Problem, of_demand}
-use Rattle.route_exchange.specs.plan.Plan.{Plan, Holds, HasPosition, split, route, total, non_empty, exchange_tails}
+use Rattle.route_exchange.specs.plan.Plan.{Plan, HasPosition, route, total, non_empty, exchange_tails}
+use Rattle.route_exchange.specs.plan.Given.{plan_of, Becomes}
+use Rattle.route_exchange.specs.plan.declared.routes.Routes.{Routes}
 use Rattle.route_exchange.specs.PlanExchanges.{first_exchange_tails, second_exchange_tails}
 use Rattle.joined_tails.specs.route_load.Feasible.{load, fits, feasible}
 use Rattle.joined_tails.specs.perturbation.Perturb.{try_tails}
@@ -48,6 +47,8 @@ module _ (p : Problem) (a i b j : ℕ) (plan : Plan)
     pub joined_decides : w ≡ true → (x : Bool) → x ≡ joined_stands whole_problem a i b j plan → x ≡ both_stand
     joined_decides f x ex = ex ∙ sym (ap (λ (t : Bool). joined_stands whole_problem a i b j plan && t) (sym ew ∙ f) ∙ and_true (joined_stands whole_problem a i b j plan))
 
+pub ruleset both_laws = (joined_heavy, joined_falls, joined_decides)
+
 same_tests : (a b c d : Bool) {A : Type 0} (x y : A) → cond (a && c) (cond (b && d) x y) y ≡ cond ((a && b) && (c && d)) x y
 same_tests true true c d x y = go c
   where
@@ -58,20 +59,23 @@ same_tests true false true d x y = refl
 same_tests true false false d x y = refl
 same_tests false b c d x y = refl
 
-module _ (p : Problem) (ls s : List ℕ) (a i b j : ℕ) (d : a ≡ b → ⊥) (f : HasPosition (split ls s) a i) (g : HasPosition (split ls s) b j)
-    (v : Bool) (ev : v ≡ (joined_stands p a i b j (split ls s) && joined_stands p b j a i (split ls s))) where
-  by_joined : try_tails p a i b j (split ls s) ≡ cond v (exchange_tails a i b j (split ls s)) (split ls s)
+module _ (p : Problem) (old : Routes) (a i b j : ℕ) (d : a ≡ b → ⊥) (f : HasPosition (plan_of old) a i) (g : HasPosition (plan_of old) b j)
+    (v : Bool) (ev : v ≡ (joined_stands p a i b j (plan_of old) && joined_stands p b j a i (plan_of old))) where
+  by_joined : try_tails p a i b j (plan_of old) ≡ cond v (exchange_tails a i b j (plan_of old)) (plan_of old)
   unfolding try_tails joined_stands joined
   by_joined =
-      let plan = split ls s in
+      let plan = plan_of old in
       let ra = take i (route a plan) ++ drop j (route b plan) in
       let rb = take j (route b plan) ++ drop i (route a plan) in
       rw (ev, first_exchange_tails a i b j plan d f.there g.there, second_exchange_tails a i b j plan d f.there g.there)
       (same_tests (non_empty ra) (feasible p ra) (non_empty rb) (feasible p rb) (exchange_tails a i b j plan) plan)
 
-  pub tails_made : (ls₁ s₁ : List ℕ) → v ≡ true → Holds (exchange_tails a i b j (split ls s)) (total ls) ls₁ s₁
-      → Holds (try_tails p a i b j (split ls s)) (total ls) ls₁ s₁
-  tails_made ls₁ s₁ t h = rw (by_joined, t) h
+  pub tails_made : (n : ℕ) (new : Routes) → v ≡ true → Becomes old (exchange_tails a i b j (plan_of old)) n new
+      → Becomes old (try_tails p a i b j (plan_of old)) n new
+  tails_made n new t h = rw (by_joined, t) h
 
-  pub tails_left : v ≡ false → Holds (try_tails p a i b j (split ls s)) (total ls) ls s
-  tails_left t = rw (by_joined, t) (record { routes = refl; sum = refl })
+  pub tails_left : v ≡ false → Becomes old (try_tails p a i b j (plan_of old)) (total old.lengths.now) old
+  tails_left t =
+      rw (by_joined, t) (record { routes = refl; sum = refl; kept = record { same_lengths = refl; same_stops = refl; count = refl; room = refl } })
+
+pub ruleset tails_laws = (tails_made, tails_left)

@@ -7,5 +7,4 @@ pub use Rattle.route_exchange.specs.plan as plan
 pub use Rattle.joined_tails.specs.local_search as local_search
 pub use Rattle.joined_tails.specs.perturbation as perturbation
 -- and their laws
-pub use Rattle.route_exchange.specs.PlanPlanLaws as PlanPlanLaws
 pub use Rattle.joined_tails.specs.PerturbationMoveDraws as PerturbationMoveDraws

@@ -7,7 +7,7 @@ use Rattle.tally.specs.declared.Tally.{Tally}
 -- the line of a kind
 abbrev pub kind_line : Tally → Kind → List ℕ
 kind_line t kind =
-    name_of kind ++ codes ": " ++ decimal (get_or t.asked (number_of kind) 0) ++ codes " calls, " ++ decimal (get_or t.agreed (number_of kind) 0) ++ codes " agree\n"
+    name_of kind ++ codes ": " ++ decimal (get_or t.asked.by_kind (number_of kind) 0) ++ codes " calls, " ++ decimal (get_or t.agreed.by_kind (number_of kind) 0) ++ codes " agree\n"
 
 -- the lines of kinds
 unfoldable pub kind_lines : Tally → List Kind → List ℕ
@@ -16,7 +16,7 @@ kind_lines t (k ∷ ks) = kind_line t k ++ kind_lines t ks
 
 -- the line of the sum
 abbrev pub sum_line : Tally → List ℕ
-sum_line t = decimal (get_or t.asked 10 0) ++ (codes " calls replayed, " ++ (decimal (get_or t.agreed 10 0) ++ codes " agree\n"))
+sum_line t = decimal t.asked.all ++ (codes " calls replayed, " ++ (decimal t.agreed.all ++ codes " agree\n"))
 
 -- a line for each kind, the sum last
 abbrev pub printed : Tally → List ℕ

@@ -2,23 +2,28 @@
 use Rattle.std.specs.Prelude.{ℕ, ◌+◌, ◌≡◌, List, [], ◌∷◌, Bool, cond, eqb, get_or, set, replicate}
 use Rattle.stored_values.specs.declared.kinds.Kind.{Kind}
 use Rattle.stored_values.specs.Kinds.{number_of}
+use Rattle.tally.specs.declared.Calls.{Calls}
 use Rattle.tally.specs.declared.Tally.{Tally}
 
 -- one more, up to the last number of 64 bits
 abbrev pub one_more : ℕ → ℕ
 one_more n = cond (eqb n 18446744073709551615) n (n + 1)
 
--- a call more of a kind, and in the sum
-abbrev pub counted : ℕ → List ℕ → List ℕ
-counted kind counts = set (set counts kind (one_more (get_or counts kind 0))) 10 (one_more (get_or counts 10 0))
+-- no call
+abbrev pub none_counted : Calls
+none_counted = record { by_kind = replicate 10 0; all = 0 }
+
+-- a call more of a kind, and of all
+abbrev pub counted : ℕ → Calls → Calls
+counted kind calls = record { by_kind = set calls.by_kind kind (one_more (get_or calls.by_kind kind 0)); all = one_more calls.all }
 
 -- only where it agrees
-abbrev pub counted_if : Bool → ℕ → List ℕ → List ℕ
-counted_if agrees kind counts = cond agrees (counted kind counts) counts
+abbrev pub counted_if : Bool → ℕ → Calls → Calls
+counted_if agrees kind calls = cond agrees (counted kind calls) calls
 
 -- before any call
 abbrev pub no_calls : Tally
-no_calls = record { asked = replicate 11 0; agreed = replicate 11 0 }
+no_calls = record { asked = none_counted; agreed = none_counted }
 
 -- a call of a kind is counted, and as one that agrees only where it does
 abbrev pub noted : Kind → Bool → Tally → Tally

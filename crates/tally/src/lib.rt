@@ -3,7 +3,7 @@
 
 ghost use Rattle.std.specs.Prelude.{◌≡◌, Some};
 ghost use Rattle.stored_values.specs.Kinds.{number_of};
-ghost use Rattle.tally.specs.Tally.{one_more, counted, no_calls, noted};
+ghost use Rattle.tally.specs.Tally.{one_more, none_counted, counted, no_calls, noted};
 ghost use Rattle.tally.specs.Printed.{kind_line, printed};
 
 use std::fmt;
@@ -12,13 +12,16 @@ use std::fmt::Write;
 // Of the crates below, passed on to those above.
 pub use stored_values::Kind;
 
+// The handle of standard output.
+const STDOUT: i32 = 1;
+
 // Standard output.
 #[derive(Clone, Copy)]
 struct Stdout;
 
 impl fmt::Write for Stdout {
     fn write_str(&mut self, s: &str) -> fmt::Result {
-        if io::write_all(1, s.as_bytes()) {
+        if io::write_all(STDOUT, s.as_bytes()) {
             Ok(())
         } else {
             Err(fmt::Error)
@@ -26,11 +29,18 @@ impl fmt::Write for Stdout {
     }
 }
 
-// How many calls of each kind were asked, and how many of their answers agreed. Cells 0 to 9 are the kinds, cell 10 is their sum.
+// Calls counted by their kinds, and all of them.
+#[derive(Clone, Copy)]
+pub struct Calls {
+    by_kind: [u64; 10],
+    all: u64,
+}
+
+// How many calls were asked, and how many of their answers agreed.
 #[derive(Clone, Copy)]
 pub struct Tally {
-    asked: [u64; 11],
-    agreed: [u64; 11],
+    asked: Calls,
+    agreed: Calls,
 }
 
 // One more, up to the last number.
@@ -40,14 +50,24 @@ fn more(count: u64) -> u64
     count.saturating_add(1)
 }
 
-// Counts a call of a kind.
-fn count(kind: Kind, counts: &mut [u64; 11])
-    ensures { counts.new ≡ counted (number_of kind) counts.old }
-{
-    let of_kind = counts[kind.number()];
-    let all = counts[10];
-    counts[kind.number()] = more(of_kind);
-    counts[10] = more(all);
+impl Calls {
+    fn none() -> Calls
+        ensures { result ≡ none_counted }
+    {
+        Calls {
+            by_kind: [0; 10],
+            all: 0,
+        }
+    }
+
+    // Counts a call of a kind.
+    fn count(&mut self, kind: Kind)
+        ensures { self.new ≡ counted (number_of kind) self.old }
+    {
+        let of_kind = self.by_kind[kind.number()];
+        self.by_kind[kind.number()] = more(of_kind);
+        self.all = more(self.all);
+    }
 }
 
 impl Tally {
@@ -56,8 +76,8 @@ impl Tally {
         ensures { result ≡ no_calls }
     {
         Tally {
-            asked: [0; 11],
-            agreed: [0; 11],
+            asked: Calls::none(),
+            agreed: Calls::none(),
         }
     }
 
@@ -65,11 +85,11 @@ impl Tally {
     pub fn note(&mut self, kind: Kind, agrees: bool)
         ensures { self.new ≡ noted kind agrees self.old }
     {
-        count(kind, &mut self.asked);
+        self.asked.count(kind);
         if agrees {
-            count(kind, &mut self.agreed);
+            self.agreed.count(kind);
         } else {
-            print_difference(self.asked[10], kind);
+            print_difference(self.asked.all, kind);
         }
     }
 
@@ -91,8 +111,8 @@ impl fmt::Display for KindLine {
 
     fn fmt<W: fmt::Write>(&self, f: &mut fmt::Formatter<W>) -> fmt::Result {
         let kind = self.kind;
-        let asked = self.tally.asked[kind.number()];
-        let agreed = self.tally.agreed[kind.number()];
+        let asked = self.tally.asked.by_kind[kind.number()];
+        let agreed = self.tally.agreed.by_kind[kind.number()];
         writeln!(f, "{kind}: {asked} calls, {agreed} agree")
     }
 }
@@ -107,8 +127,8 @@ impl fmt::Display for Tally {
             let line = KindLine { tally, kind };
             write!(f, "{line}")?;
         }
-        let asked = self.asked[10];
-        let agreed = self.agreed[10];
+        let asked = self.asked.all;
+        let agreed = self.agreed.all;
         writeln!(f, "{asked} calls replayed, {agreed} agree")
     }
 }

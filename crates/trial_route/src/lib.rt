@@ -11,8 +11,8 @@ use route_checks::{Riding, Way, home_allowed, is_feasible, reach, reach_all, rid
 
 // Of the crates below, passed on to those above.
 pub use route_checks::{
-    Customer, Customers, DistanceMatrix, Fleet, Instance, Label, Network, Problem, RouteEval,
-    RouteLimits, TimeWindow, Vehicle, VehicleBreak, Walk, abs, break_schedule_schedule,
+    Customer, Customers, Demand, DistanceMatrix, Fleet, Instance, Label, Network, Problem,
+    RouteEval, RouteLimits, TimeWindow, Vehicle, VehicleBreak, Walk, abs, break_schedule_schedule,
     customer_at, evaluation_check, evaluation_route_feasible, get, has_soft_windows, infinity,
     is_finite, largest, limited, max, min, penalty_at, route_checks_needed, scale, serve_at,
     total_less, travel_time, window_at,

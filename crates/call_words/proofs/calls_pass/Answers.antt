@@ -1,5 +1,4 @@
 -- `calls_pass` meets its contract: what the check does not find alone.
-use Prim.Native.Nat.{◌-◌}
 use borrow.Author.Tests.{not-true, not-false}
 use Rattle.planner.specs.laws.Picks.{via}
 use Rattle.call_words.proofs.FormLaws.{judging_laws}

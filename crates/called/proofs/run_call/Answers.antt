@@ -1,24 +1,11 @@
 -- `run_call` meets its contract: what the check does not find alone.
-use mathlib.Core.Path.{sym}
-use native.Mathlib.Omega.{arith}
-use lib.Seq.{length-take-le}
-use Rattle.called.proofs.CalledLaws.{minimise_called, eliminate_called}
+use Rattle.std.proofs.Common.{rules}
+use Rattle.called.proofs.CalledLaws.{minimise_called, eliminate_called, asks_minimise, asks_eliminate, asks_nothing}
 use Rattle.called.proofs.run_call.Goals as goal
+use Rattle.called.proofs.run_call.Goals.{in_default-via-in-Some+in_default, in_default-via-in_default}
 
-pub slice_bounds-minimise-end-then-w-eq0 : goal.slice_bounds-minimise-end-then-w-eq0
-slice_bounds-minimise-end-then-w-eq0 c = sym (length-take-le _ c.args.work.now c.requires.small)
+pub returns-in-Some-Minimise : goal.returns-in-Some-Minimise
+returns-in-Some-Minimise c = minimise_called _ _ _ _ _ _ _ c.requires _ (asks_minimise c.args.w _ c.in-Some-Minimise.ensures c.in-Some-Minimise.field-0-is) c.minimise.ensures.reply
 
-pub slice_bounds-minimise-end-then-w-eq0-3 : goal.slice_bounds-minimise-end-then-w-eq0-3
-slice_bounds-minimise-end-then-w-eq0-3 c = sym (length-take-le _ c.args.cells.now c.requires.wide)
-
-pub returns-then-w-eq0 : goal.returns-then-w-eq0
-returns-then-w-eq0 c = minimise_called _ _ _ _ _ _ _ c.requires _ (omega (arith, c.if-w-eq0.true)) c.minimise.ensures.reply
-
-pub slice_bounds-eliminate-end-2 : goal.slice_bounds-eliminate-end-2
-slice_bounds-eliminate-end-2 c = sym (length-take-le _ c.args.work.now c.requires.small)
-
-pub slice_bounds-eliminate-end-4 : goal.slice_bounds-eliminate-end-4
-slice_bounds-eliminate-end-4 c = sym (length-take-le _ c.args.cells.now c.requires.wide)
-
-pub returns : goal.returns
-returns c = eliminate_called _ _ _ _ _ _ _ c.requires _ c.if-w-eq0.false c.eliminate.ensures.reply
+pub returns-in_default : goal.returns-in_default
+returns-in_default c = eliminate_called _ _ _ _ _ _ _ c.requires _ (elim c.in_default.branch [ in_default-via-in-Some+in_default w ↦ search (rules, asks_eliminate) | in_default-via-in_default w ↦ asks_nothing c.args.w _ c.asks.ensures w.in_default.is ]) c.eliminate.ensures.reply

@@ -1,7 +1,9 @@
 -- What the loop of `cheapest` keeps.
-use Rattle.cheapest_insertion.proofs.PlanLaws.{Seeking}
+use Rattle.std.proofs.Common.{None}
 use Rattle.route_insertion.specs.evaluation.Given.{of_instance}
+use Rattle.route_insertion.specs.insertion.Cheapest.{try_route}
+use Rattle.route_insertion.specs.InsertionLeftLaws.{Left}
 use Rattle.cheapest_insertion.proofs.cheapest.Given as goal
 
 abbrev pub invariant-loop-k : goal.invariant-loop-k
-invariant-loop-k l = Seeking (of_instance l.given) l.lengths l.stops l.c l.given.fleet.needed l.initial.cells l.cells l.best l.at l.k
+invariant-loop-k l = Left l.lengths l.routes.stops.now (try_route (of_instance l.given) l.c) None l.best l.k l.rest

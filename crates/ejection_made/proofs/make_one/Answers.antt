@@ -2,8 +2,8 @@
 use Rattle.ejection_made.proofs.MakeLaws.{made_laws}
 use Rattle.ejection_made.proofs.make_one.Goals as goal
 
-pub replace-x-requires : goal.replace-x-requires
-replace-x-requires c = record { lent = search made_laws; has_stop = search made_laws }
+pub replace-x-requires-clause-has_position : goal.replace-x-requires-clause-has_position
+replace-x-requires-clause-has_position c = search made_laws
 
 pub returns : goal.returns
 returns c = search made_laws

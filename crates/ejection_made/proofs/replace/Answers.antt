@@ -2,8 +2,8 @@
 use Rattle.ejection_made.proofs.MakeLaws.{out_laws}
 use Rattle.ejection_made.proofs.replace.Goals as goal
 
-pub put_in-requires : goal.put_in-requires
-put_in-requires c = record { lent = search out_laws; has_position = search out_laws }
+pub put_in-requires-clause-has_room : goal.put_in-requires-clause-has_room
+put_in-requires-clause-has_room c = search out_laws
 
-pub returns : goal.returns
-returns c = record { plan = search out_laws; stop = search out_laws }
+pub returns-clause-plan : goal.returns-clause-plan
+returns-clause-plan c = search out_laws

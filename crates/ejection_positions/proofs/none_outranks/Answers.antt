@@ -1,17 +1,11 @@
 -- `none_outranks` meets its contract: what the check does not find alone.
-use Prim.Native.Nat.{◌-◌}
 use mathlib.Core.Path.{ap}
 use mathlib.Core.Bool.{not}
 use native.Mathlib.Omega.{arith}
-use Rattle.ejection.specs.route_cost.Route.{insertion_cost}
-use Rattle.ejection.specs.Eject.{outranks}
 use Rattle.ejection_positions.specs.Pass.{none_outranks}
 use Rattle.ejection.specs.laws.Passed.{passed_one, failed_one, every_laws}
 use Rattle.ejection_positions.proofs.PositionLaws.{rank_told}
 use Rattle.ejection_positions.proofs.none_outranks.Goals as goal
-
-pub loop-pos-init : goal.loop-pos-init
-loop-pos-init c = search every_laws
 
 pub returns-then-outranks : goal.returns-then-outranks
 unfolding none_outranks

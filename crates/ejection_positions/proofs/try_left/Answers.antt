@@ -1,15 +1,7 @@
 -- `try_left` meets its contract: what the check does not find alone.
-use native.Mathlib.Omega.{arith}
-use Rattle.ejection.specs.RouteLoadFeasibleLaws.{demands_own, stops_own, place_own}
 use Rattle.ejection_positions.proofs.PositionLaws.{kept_laws}
 use Rattle.ejection_positions.proofs.try_left.Goals as goal
 use Rattle.ejection_positions.proofs.try_left.Goals.{then-not-has_room-via-then-not-has_room, then-not-has_room-via-else-not-has_room+then-none_outranks}
-
-pub has_room-requires : goal.has_room-requires
-has_room-requires c = (demands_own _ _ c.args.given.now.admitted.demands, stops_own _ _ c.args.given.now.admitted.demands _ c.requires.1, place_own _ _ c.args.given.now.admitted.demands _ c.requires.0)
-
-pub try_positions-requires : goal.try_positions-requires
-try_positions-requires c = (c.requires.0, c.requires.1, omega (arith, c.requires.2, c.prepare.auto.cells))
 
 pub returns-then-prepare : goal.returns-then-prepare
 returns-then-prepare c = search kept_laws

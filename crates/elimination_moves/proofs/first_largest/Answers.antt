@@ -1,5 +1,4 @@
 -- `first_largest` meets its contract: what the check does not find alone.
-use Prim.Native.Nat.{◌-◌}
 use Rattle.elimination_moves.proofs.LargestLaws.{picking_laws}
 use Rattle.elimination_moves.proofs.first_largest.Goals as goal
 

@@ -1,19 +1,39 @@
 -- `empty_route` meets its contract: what the check does not find alone.
+use mathlib.Core.Path.{sym}
 use native.Mathlib.Omega.{arith}
-use Rattle.emptied_route.proofs.EmptiedLaws.{attempt_count, erased_waiting, erased_some, empty_stuck, empty_gained, empty_accepted, not_accepted}
+use lib.Seq.{length-take-le}
+use Rattle.emptied_route.proofs.EmptiedLaws.{attempt_count, front_routes, front_few, front_free, front_places, whole_lent, empty_stuck, empty_gained, empty_accepted}
 use Rattle.emptied_route.proofs.empty_route.Goals as goal
 
-pub keep_route-requires : goal.keep_route-requires
-keep_route-requires c = (c.requires.0.lent, c.requires.0.there, attempt_count _ _ _ _ _ _ c.requires.0)
+pub keep_route-requires-clause-room : goal.keep_route-requires-clause-room
+keep_route-requires-clause-room c = attempt_count _ _ _ c.requires.attempted
 
-pub move_into-sum-requires : goal.move_into-sum-requires
-move_into-sum-requires c = (
-  erased_waiting _ _ _ _ _ _ c.requires.0 c.keep_route.new.left c.keep_route.ensures c.erase_route.new.lengths c.erase_route.new.stops c.erase_route.ensures.rest c.erase_route.ensures.plan (omega (arith, attempt_count _ _ _ _ _ _ c.requires.0, c.keep_route.auto.left)) c.erase_route.auto.stops,
-  erased_some _ _ _ _ _ _ c.requires.0 c.keep_route.new.left c.keep_route.ensures c.erase_route.new.lengths c.erase_route.new.stops c.erase_route.ensures.rest c.erase_route.ensures.plan,
-)
+pub slice_bounds-left-end : goal.slice_bounds-left-end
+slice_bounds-left-end c = omega (arith, attempt_count _ _ _ c.requires.attempted, c.keep_route.auto.left)
 
-pub returns-in_default : goal.returns-in_default
-returns-in_default c = record { plan = empty_stuck _ _ _ _ _ _ c.requires.0 c.keep_route.new.left c.keep_route.ensures c.erase_route.new.lengths c.erase_route.new.stops c.erase_route.ensures.rest c.erase_route.ensures.plan _ c.move_into-sum.result c.move_into-sum.new.lengths c.move_into-sum.new.stops c.move_into-sum.ensures.moved c.in_default.is; kept = not_accepted }
+pub slice_bounds-move_into-end-4 : goal.slice_bounds-move_into-end-4
+slice_bounds-move_into-end-4 c = sym (length-take-le _ c.keep_route.new.left (omega (arith, attempt_count _ _ _ c.requires.attempted, c.keep_route.auto.left)))
 
-pub returns : goal.returns
-returns c = record { plan = empty_gained _ _ _ _ _ _ c.requires.0 c.keep_route.new.left c.keep_route.ensures c.erase_route.new.lengths c.erase_route.new.stops c.erase_route.ensures.rest c.erase_route.ensures.plan _ c.move_into-sum.result c.move_into-sum.new.lengths c.move_into-sum.new.stops c.move_into-sum.ensures.moved _ c.in-Some.is _ c.requires.1; kept = λ _. empty_accepted _ _ _ _ _ _ c.requires.0 c.keep_route.new.left c.keep_route.ensures c.erase_route.new.lengths c.erase_route.new.stops c.erase_route.ensures.rest c.erase_route.ensures.plan _ c.move_into-sum.result c.move_into-sum.new.lengths c.move_into-sum.new.stops c.move_into-sum.ensures.moved _ c.in-Some.is c.move_into-sum.ensures.kept c.move_into-sum.ensures.last }
+pub move_into-sum-requires-clause-routes : goal.move_into-sum-requires-clause-routes
+move_into-sum-requires-clause-routes c = front_routes _ c.args.routes.now _ c.requires.attempted c.keep_route.new.left c.keep_route.ensures c.erase_route.new.routes c.erase_route.ensures.rest c.erase_route.ensures.plan c.erase_route.ensures.kept
+
+pub move_into-sum-requires-clause-few : goal.move_into-sum-requires-clause-few
+move_into-sum-requires-clause-few c = front_few _ c.args.routes.now _ c.requires.attempted c.keep_route.new.left c.keep_route.ensures c.erase_route.new.routes c.erase_route.ensures.rest c.erase_route.ensures.plan c.erase_route.ensures.kept
+
+pub move_into-sum-requires-clause-free : goal.move_into-sum-requires-clause-free
+move_into-sum-requires-clause-free c = front_free _ c.args.routes.now _ c.requires.attempted c.keep_route.new.left c.keep_route.ensures c.erase_route.new.routes c.erase_route.ensures.rest c.erase_route.ensures.plan c.erase_route.ensures.kept
+
+pub move_into-sum-requires-clause-places : goal.move_into-sum-requires-clause-places
+move_into-sum-requires-clause-places c = front_places _ c.args.routes.now _ c.requires.attempted c.keep_route.new.left c.keep_route.ensures c.erase_route.new.routes c.erase_route.ensures.rest c.erase_route.ensures.plan c.erase_route.ensures.kept
+
+pub invariant_of-routes : goal.invariant_of-routes
+invariant_of-routes c = record { lent = whole_lent _ c.args.routes.now _ c.requires.attempted c.keep_route.new.left c.keep_route.ensures c.erase_route.new.routes c.erase_route.ensures.rest c.erase_route.ensures.plan c.erase_route.ensures.kept c.move_into-sum.new.lengths c.move_into-sum.auto.lengths _ c.move_into-sum.ensures.lent }
+
+pub returns-in_default-clause-plan : goal.returns-in_default-clause-plan
+returns-in_default-clause-plan c = empty_stuck _ c.args.routes.now _ c.requires.attempted c.keep_route.new.left c.keep_route.ensures c.erase_route.new.routes c.erase_route.ensures.rest c.erase_route.ensures.plan c.erase_route.ensures.kept c.move_into-sum.new.lengths c.move_into-sum.auto.lengths _ c.move_into-sum.result c.move_into-sum.new.stops c.move_into-sum.ensures.moved c.in_default.is
+
+pub returns-clause-plan : goal.returns-clause-plan
+returns-clause-plan c = empty_gained _ c.args.routes.now _ c.requires.attempted c.keep_route.new.left c.keep_route.ensures c.erase_route.new.routes c.erase_route.ensures.rest c.erase_route.ensures.plan c.erase_route.ensures.kept c.move_into-sum.new.lengths c.move_into-sum.auto.lengths _ c.move_into-sum.result c.move_into-sum.new.stops c.move_into-sum.ensures.moved _ c.in-Some.is _ c.requires.floor_is
+
+pub returns-clause-accepted : goal.returns-clause-accepted
+returns-clause-accepted c = λ _. empty_accepted _ c.args.routes.now _ c.requires.attempted c.keep_route.new.left c.keep_route.ensures c.erase_route.new.routes c.erase_route.ensures.rest c.erase_route.ensures.plan c.erase_route.ensures.kept c.move_into-sum.new.lengths c.move_into-sum.auto.lengths _ c.move_into-sum.result c.move_into-sum.new.stops c.move_into-sum.ensures.moved _ c.in-Some.is c.move_into-sum.ensures.sum

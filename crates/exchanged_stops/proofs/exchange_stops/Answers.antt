@@ -1,17 +1,17 @@
 -- `exchange_stops` meets its contract: what the check does not find alone.
-use borrow.Author.Rules.{rules}
+use Rattle.std.proofs.Common.{rules, refl}
 use Rattle.plan.proofs.PlanLaws.{place_laws}
 use Rattle.exchanged_stops.proofs.ExchangeLaws.{exchange_stops_done}
 use Rattle.exchanged_stops.proofs.exchange_stops.Goals as goal
 
-pub offset-requires : goal.offset-requires
-offset-requires c = search (rules, place_laws)
+pub begins-requires : goal.begins-requires
+begins-requires c = search (rules, place_laws)
 
 pub overflow_add-p : goal.overflow_add-p
 overflow_add-p c = search (rules, place_laws)
 
-pub offset-requires-2 : goal.offset-requires-2
-offset-requires-2 c = search (rules, place_laws)
+pub begins-requires-2 : goal.begins-requires-2
+begins-requires-2 c = search (rules, place_laws)
 
 pub overflow_add-q : goal.overflow_add-q
 overflow_add-q c = search (rules, place_laws)
@@ -20,4 +20,5 @@ pub swap-requires : goal.swap-requires
 swap-requires c = search (rules, place_laws)
 
 pub returns : goal.returns
-returns c = search exchange_stops_done
+returns c =
+    record { routes = search exchange_stops_done; sum = refl; kept = record { same_lengths = refl; same_stops = refl; count = refl; room = search rules } }

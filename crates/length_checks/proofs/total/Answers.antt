@@ -1,10 +1,13 @@
 -- `total` meets its contract: what the check does not find alone.
-use native.Mathlib.Omega.{arith}
-use Rattle.length_checks.proofs.SumLaws.{summed_none, summed_one}
+use Rattle.std.proofs.Common.{rules, tests, ◌∙◌, ℕ}
+use Rattle.std.proofs.lemmas.Iterator.{YieldsList-from_slice, YieldsList-from_map}
+use Rattle.std.proofs.lemmas.Iterator.Consumers.{sum_by_from_yields_List}
+use Rattle.length_checks.proofs.SumLaws.{sum_total}
 use Rattle.length_checks.proofs.total.Goals as goal
 
-pub loop-length-init : goal.loop-length-init
-loop-length-init c = summed_none _ c.requires
-
-pub loop-length-preserved : goal.loop-length-preserved
-loop-length-preserved c = summed_one _ _ _ c.loop-length.invariant (omega arith) (omega (arith, c.type_inv.lengths c.loop-length.length-index))
+pub returns : goal.returns
+returns c =
+    let lengths = c.args.lengths.now in
+    sum_by_from_yields_List (λ (n : ℕ). n) lengths c.map.result _ c.sum.ensures.ran
+    (YieldsList-from_map _ (λ (n : ℕ). n) (YieldsList-from_slice lengths cc) c.map.ensures.closure (λ x r q k. search (rules, tests)))
+    ∙ sum_total lengths

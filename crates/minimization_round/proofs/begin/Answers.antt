@@ -1,10 +1,23 @@
 -- `begin` meets its contract: what the check does not find alone.
+use mathlib.Core.Path.{sym}
+use lib.Seq.{length-take-le}
+use Rattle.minimization.specs.local_search.Planned.{planned_stops}
 use Rattle.minimization.specs.LocalSearchNextLaws.{count_within, begun_lent, begun_planned}
 use Rattle.minimization_round.proofs.NextLaws.{begun_cost}
 use Rattle.minimization_round.proofs.begin.Goals as goal
 
-pub cost_of-before-requires : goal.cost_of-before-requires
-cost_of-before-requires c = record { n_bound = c.requires.n_bound; count_in_bounds = (count_within _ _ _ c.drop_empty-count.ensures.rest c.drop_empty-count.ensures.count, begun_lent _ _ _ c.drop_empty-count.ensures.rest c.drop_empty-count.ensures.count _ c.requires.lent.0, begun_planned _ _ _ c.drop_empty-count.ensures.rest c.drop_empty-count.ensures.count _ c.requires.lent.0 _ c.requires.lent.1) }
+pub slice_bounds-plan_cost-end : goal.slice_bounds-plan_cost-end
+slice_bounds-plan_cost-end c = count_within _ _ _ c.drop_empty-count.ensures.rest c.drop_empty-count.ensures.count
 
-pub returns : goal.returns
-returns c = record { rest = c.drop_empty-count.ensures.rest; count = c.drop_empty-count.ensures.count; cost = begun_cost _ _ _ c.drop_empty-count.ensures.rest c.drop_empty-count.ensures.count _ _ _ c.cost_of-before.ensures }
+pub slice_bounds-plan_cost-end-2 : goal.slice_bounds-plan_cost-end-2
+slice_bounds-plan_cost-end-2 c = sym (length-take-le _ _ (count_within _ _ _ c.drop_empty-count.ensures.rest c.drop_empty-count.ensures.count))
+
+pub plan_cost-before-requires-clause-lent : goal.plan_cost-before-requires-clause-lent
+plan_cost-before-requires-clause-lent c = begun_lent _ _ _ c.drop_empty-count.ensures.rest c.drop_empty-count.ensures.count _ c.requires.lent
+
+pub plan_cost-before-requires-clause-stops : goal.plan_cost-before-requires-clause-stops
+plan_cost-before-requires-clause-stops c =
+    planned_stops _ _ (begun_planned _ _ _ c.drop_empty-count.ensures.rest c.drop_empty-count.ensures.count _ c.requires.lent _ c.requires.planned)
+
+pub returns-clause-cost : goal.returns-clause-cost
+returns-clause-cost c = begun_cost _ _ _ c.drop_empty-count.ensures.rest c.drop_empty-count.ensures.count _ _ _ c.plan_cost-before.ensures

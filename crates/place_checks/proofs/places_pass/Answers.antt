@@ -1,18 +1,14 @@
 -- `places_pass` meets its contract: what the check does not find alone.
-use Rattle.problem_checks.specs.laws.Passed.{every_laws}
+use Rattle.std.proofs.Common.{rules, tests, ◌∙◌, length}
+use Rattle.std.proofs.Math.Nat.{sub-zero}
+use Rattle.std.proofs.lemmas.Iterator.{YieldsList-from_range}
+use Rattle.std.proofs.lemmas.Iterator.Search.{all_from_yields_List}
+use Rattle.problem_checks.specs.models.Valid.{place_passes}
+use Rattle.place_checks.proofs.RangeLaws.{range_every}
 use Rattle.place_checks.proofs.places_pass.Goals as goal
 
-pub loop-c-init : goal.loop-c-init
-loop-c-init c = search every_laws
-
-pub place_passes-requires : goal.place_passes-requires
-place_passes-requires c = search every_laws
-
-pub returns-then-not-place_passes : goal.returns-then-not-place_passes
-returns-then-not-place_passes c = search every_laws
-
-pub loop-c-preserved : goal.loop-c-preserved
-loop-c-preserved c = search every_laws
-
 pub returns : goal.returns
-returns c = search every_laws
+returns c =
+    let t = place_passes c.args.demand.now c.args.places.now in
+    let n = length c.args.demand.now in
+    all_from_yields_List t _ _ _ c.all.ensures.ran (YieldsList-from_range 0 n n (search rules) (sub-zero n)) (λ x b q k. search (rules, tests)) ∙ range_every t n 0

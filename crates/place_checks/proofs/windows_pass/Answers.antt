@@ -1,18 +1,14 @@
 -- `windows_pass` meets its contract: what the check does not find alone.
-use Rattle.problem_checks.specs.laws.Passed.{every_laws}
+use Rattle.std.proofs.Common.{rules, tests, ◌∙◌, length}
+use Rattle.std.proofs.Math.Nat.{sub-zero}
+use Rattle.std.proofs.lemmas.Iterator.{YieldsList-from_range}
+use Rattle.std.proofs.lemmas.Iterator.Search.{all_from_yields_List}
+use Rattle.problem_checks.specs.models.Valid.{window_ordered}
+use Rattle.place_checks.proofs.RangeLaws.{range_every}
 use Rattle.place_checks.proofs.windows_pass.Goals as goal
 
-pub loop-c-init : goal.loop-c-init
-loop-c-init c = search every_laws
-
-pub window_ordered-requires : goal.window_ordered-requires
-window_ordered-requires c = search every_laws
-
-pub returns-then-not-window_ordered : goal.returns-then-not-window_ordered
-returns-then-not-window_ordered c = search every_laws
-
-pub loop-c-preserved : goal.loop-c-preserved
-loop-c-preserved c = search every_laws
-
 pub returns : goal.returns
-returns c = search every_laws
+returns c =
+    let t = window_ordered c.args.places.now in
+    let n = length c.args.places.now.flags in
+    all_from_yields_List t _ _ _ c.all.ensures.ran (YieldsList-from_range 0 n n (search rules) (sub-zero n)) (λ x b q k. search (rules, tests)) ∙ range_every t n 0

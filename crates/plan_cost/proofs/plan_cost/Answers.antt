@@ -5,11 +5,11 @@ use Rattle.plan_cost.proofs.plan_cost.Goals as goal
 pub loop-length-init : goal.loop-length-init
 loop-length-init c = search costing_laws
 
-pub overflow_add-end : goal.overflow_add-end
-overflow_add-end c = search costing_laws
+pub split_at-requires : goal.split_at-requires
+split_at-requires c = search costing_laws
 
-pub part_distance-requires-clause-depot_lt_n : goal.part_distance-requires-clause-depot_lt_n
-part_distance-requires-clause-depot_lt_n c = search costing_laws
+pub route_distance-requires-clause-depot_lt_n : goal.route_distance-requires-clause-depot_lt_n
+route_distance-requires-clause-depot_lt_n c = search costing_laws
 
 pub loop-length-preserved : goal.loop-length-preserved
 loop-length-preserved c = search costing_laws

@@ -1,12 +1,14 @@
--- What the loops of `empty_into` keep.
-use Rattle.pool_turn.specs.ejection_pool.Running.{allowance, state}
-use Rattle.pool_turns.proofs.LoopLaws.{Looping}
+-- What the loop of `empty_into` keeps.
+use Rattle.pool_turn.specs.plan.Given.{plan_of}
+use Rattle.pool_turn.specs.ejection_pool.Running.{allowed, state}
 use Rattle.pool_turn.specs.evaluation.Given.{of_instance}
+use Rattle.pool_turns.proofs.LoopLaws.{Looping}
 use Rattle.pool_turns.proofs.empty_into.Given as goal
 
-abbrev pub invariant-loop-count : goal.invariant-loop-count
-invariant-loop-count l = Looping (allowance l.limit l.clock l.tape) (of_instance l.given) l.given.fleet.needed (state l.initial.lengths l.initial.stops l.initial.pool l.initial.count l.initial.failures l.initial.counts)
-    l.initial.lengths l.initial.stops l.initial.pool l.initial.work l.initial.failures l.initial.cells l.left l.lengths l.stops l.pool l.work l.failures l.cells l.count l.counts
+abbrev pub invariant-loop-pool : goal.invariant-loop-pool
+invariant-loop-pool l =
+    Looping (allowed l.allowance) (of_instance l.given) (state (plan_of l.initial.routes) l.initial.pool l.initial.failures l.initial.counts)
+    l.initial.routes l.initial.pool l.left l.routes l.pool l.work l.failures l.counts
 
-abbrev pub decreases-loop-count : goal.decreases-loop-count
-decreases-loop-count l = l.left
+abbrev pub decreases-loop-pool : goal.decreases-loop-pool
+decreases-loop-pool l = l.left

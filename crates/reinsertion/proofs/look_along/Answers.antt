@@ -1,5 +1,4 @@
 -- `look_along` meets its contract: what the check does not find alone.
-use Prim.Native.Nat.{◌-◌}
 use borrow.Author.Rules.{rules}
 use native.Mathlib.Omega.{arith}
 use Rattle.reinsertion.proofs.PlaceLaws.{looking_more, looking_end, looking_laws}

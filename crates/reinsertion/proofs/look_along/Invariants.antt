@@ -1,5 +1,4 @@
 -- What the loop of `look_along` keeps.
-use mathlib.Core.List.{[]}
 use Rattle.reinsertion.proofs.PlaceLaws.{Looking}
 use Rattle.reinsertion_candidates.specs.evaluation.Given.{of_fleet}
 use Rattle.reinsertion.proofs.look_along.Given as goal

@@ -2,8 +2,8 @@
 use Rattle.reinsertion_worth.proofs.WorthLaws.{worth_laws}
 use Rattle.reinsertion_worth.proofs.current.Goals as goal
 
-pub returns-then-soft : goal.returns-then-soft
-returns-then-soft c = search worth_laws
+pub returns-then-fleet : goal.returns-then-fleet
+returns-then-fleet c = search worth_laws
 
 pub returns : goal.returns
 returns c = search worth_laws

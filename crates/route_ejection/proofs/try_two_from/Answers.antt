@@ -1,19 +1,14 @@
 -- `try_two_from` meets its contract: what the check does not find alone.
-use Prim.Native.Nat.{◌-◌}
-use Rattle.ejection_positions.specs.ejection.Eject.{try_out}
-use Rattle.route_ejection.proofs.LeaveLaws.{seeking_start, seeking_more, seeking_end, two_from_is}
-use borrow.Author.Rules.{rules}
 use native.Mathlib.Omega.{arith}
+use Rattle.ejection_positions.specs.laws.Loops.{loop_none, loop_more, loop_end}
+use Rattle.route_ejection.proofs.LeaveLaws.{two_from_is}
 use Rattle.route_ejection.proofs.try_two_from.Goals as goal
 
 pub loop-d-init : goal.loop-d-init
-loop-d-init c = seeking_start _ _ _ _ _ _ _ _ _ _ c.requires.sought c.requires.route_in_bounds.0 c.requires.route_in_bounds.1
-
-pub try_out-found-requires : goal.try_out-found-requires
-try_out-found-requires c = record { sought = c.loop-d.invariant.sought; route_in_bounds = (c.loop-d.invariant.work_room, c.loop-d.invariant.cells_room, search rules, search rules) }
+loop-d-init c = loop_none _ _
 
 pub loop-d-preserved : goal.loop-d-preserved
-loop-d-preserved c = seeking_more _ _ _ _ _ _ _ _ _ _ _ _ _ _ c.loop-d.invariant _ _ _ c.loop-d-test.true c.try_out-found.auto.work c.try_out-found.auto.cells c.try_out-found.ensures
+loop-d-preserved c = loop_more _ _ _ _ _ c.loop-d.invariant c.try_out-found.ensures
 
 pub returns : goal.returns
-returns c = two_from_is _ _ _ _ _ _ _ _ (seeking_end _ _ _ _ _ _ _ _ _ _ _ _ _ _ c.loop-d.invariant (omega arith))
+returns c = two_from_is _ _ _ _ _ _ _ _ (loop_end _ _ _ _ _ c.loop-d.invariant (omega (arith, c.loop-d.auto.d-end)))

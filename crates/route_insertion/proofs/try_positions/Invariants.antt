@@ -1,12 +1,11 @@
 -- What the loop of `try_positions` keeps.
-use mathlib.Core.List.{[]}
+use mathlib.Core.Path.{◌≡◌}
 use lib.ListN.{length}
+use Rattle.insertion.specs.laws.Loops.{loop}
 use Rattle.insertion.specs.route_times.Prepared.{held}
 use Rattle.insertion.specs.Pass.{pass_position}
-use Rattle.insertion.proofs.AlongLaws.{Along}
 use Rattle.insertion.specs.evaluation.Given.{of_fleet}
 use Rattle.route_insertion.proofs.try_positions.Given as goal
 
 abbrev pub invariant-loop-pos : goal.invariant-loop-pos
-invariant-loop-pos l = Along (of_fleet l.fleet) l.c l.route l.cells l.fleet.needed
-    (pass_position (of_fleet l.fleet) l.c l.k l.route (held (length l.route) l.cells)) l.initial.found l.found l.pos
+invariant-loop-pos l = l.found ≡ loop l.pos (pass_position (of_fleet l.fleet) l.c l.k l.route (held (length l.route) l.times.cells.now)) l.initial.found

@@ -6,5 +6,8 @@ use Rattle.route_pool.proofs.to_pool.Goals as goal
 pub copy_part-requires : goal.copy_part-requires
 copy_part-requires c = search (rules, pool_laws)
 
-pub returns : goal.returns
-returns c = search pool_laws
+pub invariant_of-pool : goal.invariant_of-pool
+invariant_of-pool c = record { within = search (rules, pool_laws) }
+
+pub returns-clause-stops : goal.returns-clause-stops
+returns-clause-stops c = search pool_laws

@@ -7,5 +7,11 @@ use Rattle.route_removal.proofs.erase_route.Goals as goal
 pub cut-requires : goal.cut-requires
 cut-requires c = search (rules, place_laws)
 
-pub returns : goal.returns
-returns c = record { rest = search erase_laws; plan = search erase_laws }
+pub invariant_of-routes-2 : goal.invariant_of-routes-2
+invariant_of-routes-2 c = record { lent = search (rules, erase_laws) }
+
+pub returns-clause-rest : goal.returns-clause-rest
+returns-clause-rest c = search erase_laws
+
+pub returns-clause-plan : goal.returns-clause-plan
+returns-clause-plan c = search erase_laws

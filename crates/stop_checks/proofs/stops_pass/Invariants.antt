@@ -3,7 +3,7 @@ use mathlib.Core.List.{[]}
 use lib.ListN.{length, get_or, take}
 use Rattle.length_checks.specs.laws.Passed.{Passed}
 use Rattle.length_checks.specs.models.Problem.{of_distances}
-use Rattle.length_checks.specs.entry.Marks.{Marks}
+use Rattle.stop_checks.specs.Marks.{Marks}
 use Rattle.length_checks.specs.entry.Table.{stop_passes}
 use Rattle.stop_checks.proofs.stops_pass.Given as goal
 

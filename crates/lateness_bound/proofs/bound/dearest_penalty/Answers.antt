@@ -1,9 +1,9 @@
 -- `bound::dearest_penalty` meets its contract: what the check does not find alone.
-use Rattle.std.proofs.Common.{◌<◌, length, arith}
-use Rattle.lateness_bound.proofs.BoundLaws.{place_laws}
+use Rattle.std.proofs.Common.{rules}
+use Rattle.lateness_bound.specs.Bound.{dearest_penalty, dearer_penalty}
+use Rattle.lateness_bound.proofs.BoundLaws.{walked}
 use Rattle.lateness_bound.proofs.bound.dearest_penalty.Goals as goal
 
-pub loop-c-preserved : goal.loop-c-preserved
-loop-c-preserved c =
-    let h : c.loop-c.c < length c.args.places.now.flags = omega (arith, c.loop-c-test.true, c.len-c-end.ensures) in
-    search (place_laws, h)
+pub returns : goal.returns
+unfolding dearest_penalty dearer_penalty
+returns c = walked _ c.len.ensures (λ most at next call k. search rules) c.fold.ensures.ran

@@ -1,3 +1,0 @@
--- What the functions' proofs lean on.
--- the routes of a plan
-pub mod PlanLaws

@@ -1,0 +1,76 @@
+// The routes of a plan, and a stop put in or taken out.
+ghost use Rattle.std.specs.Prelude.{◌≡◌, ◌+◌, ◌-◌, ◌<◌, ◌≤◌, length, slice_index};
+ghost use Rattle.plan.specs.Plan.{Lent, HasPosition, HasStop, route, total, offset, put_in, take_out};
+
+// The lengths of the routes and their stops, as they are lent.
+#[derive(Drop)]
+pub struct Routes<'a> {
+    pub lengths: &'a mut [u16],
+    pub stops: &'a mut [u16],
+    pub ghost lent: { Lent lengths.now stops.now },
+}
+
+// A position of a route: before its stop at pos, or at its end.
+#[derive(Clone, Copy)]
+pub struct Position {
+    pub route: usize,
+    pub pos: usize,
+}
+
+// Where route k begins among the stops.
+pub fn offset(lengths: &[u16], k: usize) -> usize
+    requires { (k ≤ length lengths.now) × (total lengths.now < 65536) }
+    ensures { result ≡ offset lengths.now k }
+{
+    let mut sum = 0;
+    for i in 0..k {
+        sum += lengths[i] as usize;
+    }
+    sum
+}
+
+impl<'a> Routes<'a> {
+    ghost use Rattle.plan.specs.Given.{plan_of, Becomes};
+
+    // How many stops there are.
+    pub fn used(&self) -> usize
+        ensures { result ≡ total self.now.lengths.now }
+    {
+        let count = self.lengths.len();
+        offset(self.lengths, count)
+    }
+
+    // Where route k begins among the stops.
+    pub fn begins(&self, k: usize) -> usize
+        requires { k ≤ length self.now.lengths.now }
+        ensures { result ≡ offset self.now.lengths.now k }
+    {
+        offset(self.lengths, k)
+    }
+
+    // The stop c goes into route k at pos.
+    pub fn put_in(&mut self, k: usize, pos: usize, c: u16)
+        requires has_position { HasPosition (plan_of self.old) k pos }
+        requires has_room { total self.old.lengths.now < length self.old.stops.now }
+        ensures { Becomes self.old (put_in k pos c (plan_of self.old)) (total self.old.lengths.now + 1) self.new }
+    {
+        let used = self.used();
+        let p = self.begins(k) + pos;
+        cell_exchange::insert_at(self.stops, used, p, c);
+        self.lengths[k] += 1;
+    }
+
+    // The stop at pos of route k is taken out and returned.
+    pub fn take_out(&mut self, k: usize, pos: usize) -> u16
+        requires { HasStop (plan_of self.old) k pos }
+        ensures plan { Becomes self.old (take_out k pos (plan_of self.old)) (total self.old.lengths.now - 1) self.new }
+        ensures stop { result ≡ slice_index (route k (plan_of self.old)) pos }
+    {
+        let used = self.used();
+        let p = self.begins(k) + pos;
+        let c = self.stops[p];
+        cell_exchange::cut(self.stops, used, p, 1);
+        self.lengths[k] -= 1;
+        c
+    }
+}

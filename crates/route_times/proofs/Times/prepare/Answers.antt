@@ -1,0 +1,6 @@
+-- `prepare` meets its contract: what the check does not find alone.
+use Rattle.route_times.proofs.PrepareLaws.{prepared_made}
+use Rattle.route_times.proofs.Times.prepare.Goals as goal
+
+pub returns-then-fleet : goal.returns-then-fleet
+returns-then-fleet c = search prepared_made
