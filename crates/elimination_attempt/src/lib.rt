@@ -3,7 +3,7 @@
 #![tactic(auto)]
 
 ghost use Rattle.std.specs.Prelude.{◌≡◌, ◌+◌, ◌≤◌, length};
-ghost use Rattle.plan_copy.specs.plan.Plan.{saved, split};
+ghost use Rattle.plan_copy.specs.plan.Plan.{split};
 ghost use Rattle.plan_copy.specs.plan.Given.{plan_of, Keeps};
 ghost use Rattle.route_saving.specs.local_search.Options.{then_some};
 ghost use Rattle.route_saving.specs.route_cost.Route.{gain_floor};
@@ -11,7 +11,7 @@ ghost use Rattle.route_saving.specs.elimination_moves.Eliminate.{without_route};
 ghost use Rattle.route_saving.specs.emptied_route.Attempts.{Attempted, emptied, fewer, Left};
 ghost use Rattle.route_saving.specs.evaluation.Given.{of_instance};
 
-use plan_copy::{restore, save};
+use plan_copy::{keep, restore};
 use route_saving::routes::Routes;
 use route_saving::{empty_route, is_finite, saved_by};
 
@@ -21,14 +21,6 @@ pub use route_saving::{
     Counts, Demand, Instance, LocalSearchNext, Pick, Problem, Reduction, Vehicle, next_pick,
     route_cost_gain_floor, routes,
 };
-
-// Both slices are kept in the first work cells.
-fn keep(work: &mut [u16], routes: &Routes)
-    requires { length routes.now.lengths.now + length routes.now.stops.now ≤ length work.old }
-    ensures { work.new ≡ saved routes.now.lengths.now routes.now.stops.now work.old }
-{
-    save(work, routes.lengths, routes.stops);
-}
 
 // Route r goes and its stops find other places, where that gains: else both slices are put back from the work cells.
 fn try_without(

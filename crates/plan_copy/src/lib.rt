@@ -4,6 +4,8 @@
 ghost use Rattle.std.specs.Prelude.{◌≡◌, ◌+◌, ◌≤◌, length, take, drop};
 ghost use Rattle.route_removal.specs.plan.Plan.{saved};
 
+use route_removal::routes::Routes;
+
 // Of the crates below, passed on to those above.
 pub use route_removal::drop_empty;
 
@@ -15,6 +17,14 @@ pub fn save(work: &mut [u16], lengths: &[u16], stops: &[u16])
     let count = lengths.len();
     route_removal::copy_part(work, 0, lengths, 0, count);
     route_removal::copy_part(work, count, stops, 0, stops.len());
+}
+
+// The same of routes. A field that is lent from behind `&mut Routes` would lose what the routes hold; here the whole is.
+pub fn keep(work: &mut [u16], routes: &Routes)
+    requires { length routes.now.lengths.now + length routes.now.stops.now ≤ length work.old }
+    ensures { work.new ≡ saved routes.now.lengths.now routes.now.stops.now work.old }
+{
+    save(work, routes.lengths, routes.stops);
 }
 
 // Both slices become what is kept in the first work cells.

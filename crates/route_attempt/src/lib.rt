@@ -1,8 +1,8 @@
 // An attempt to empty a route into the others (local_search/route_minimization.rs, the body of the round in `minimize_routes`).
 #![tactic(auto)]
 
-ghost use Rattle.std.specs.Prelude.{◌≡◌, ◌+◌, ◌<◌, ◌≤◌, length};
-ghost use Rattle.plan_copy.specs.plan.Plan.{saved, split};
+ghost use Rattle.std.specs.Prelude.{◌≡◌, ◌<◌, ◌≤◌, length};
+ghost use Rattle.plan_copy.specs.plan.Plan.{split};
 ghost use Rattle.plan_copy.specs.plan.Given.{plan_of, Keeps};
 ghost use Rattle.route_without.specs.route_cost.Route.{cost};
 ghost use Rattle.route_without.specs.pool_cost.Attempt.{attempt};
@@ -13,21 +13,13 @@ ghost use Rattle.route_without.specs.Attempting.{Attempting};
 ghost use Rattle.route_attempt.specs.Leaves.{Leaves};
 ghost use Rattle.route_without.specs.evaluation.Given.{of_instance};
 
-use plan_copy::{restore, save};
+use plan_copy::{keep, restore};
 use route_without::routes::Routes;
 use route_without::{Counts, Instance, Vehicle, try_without};
 
 // Of the crates below, passed on to those above.
 pub use plan_copy::drop_empty;
 pub use route_without::{Allowance, Times, routes};
-
-// Both slices are kept in the first work cells.
-fn keep(work: &mut [u16], routes: &Routes)
-    requires { length routes.now.lengths.now + length routes.now.stops.now ≤ length work.old }
-    ensures { work.new ≡ saved routes.now.lengths.now routes.now.stops.now work.old }
-{
-    save(work, routes.lengths, routes.stops);
-}
 
 // The attempt at route r of a plan that costs `before`. An error is a plan that is kept: both slices are as they were; the first work cells hold them
 // meanwhile. Either comes with the counts of the call so far.
