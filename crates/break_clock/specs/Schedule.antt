@@ -13,6 +13,7 @@ use Rattle.labels.specs.Labels.{START, served_from, earlier, lives}
 use Rattle.break_clock.specs.declared.schedule.BreakClock.{BreakClock}
 use Rattle.break_clock.specs.declared.schedule.Riding.{Riding}
 use Rattle.break_clock.specs.declared.route_eval.RouteEval.{RouteEval}
+use Rattle.break_clock.specs.RouteEval.{eval_of}
 
 -- ---- the two labels
 
@@ -35,10 +36,9 @@ push cs m b k c =
     let carried = served_from k.after travel k.index None customer in
     clocked skipped (earlier carried here) c (k.index + 1)
 
--- the end of a route at a label, with the break as `taken` says
+-- the end of a route at a label
 abbrev pub ended : Label → Float → Float → Option (ℕ × Float) → Option RouteEval
-ended l distance duration taken =
-    Some (record { distance = distance; duration = duration; lateness = l.lateness; lateness_cost = l.lateness_cost; rest = taken })
+ended l distance duration taken = Some (eval_of l distance duration taken)
 
 -- "otherwise after decides"
 abbrev pub finish_after : Option Label → Float → Float → Option RouteEval

@@ -42,13 +42,7 @@ fn finish_after(after: Option<Label>, distance: f64, back: f64) -> Option<RouteE
     ensures { result ≡ finish_after after distance back }
 {
     let l = after?;
-    Some(RouteEval {
-        distance,
-        duration: l.time + back,
-        lateness: l.lateness,
-        lateness_cost: l.lateness_cost,
-        rest: l.rest,
-    })
+    Some(RouteEval::of(l, distance, l.time + back, l.rest))
 }
 
 impl BreakClock {
@@ -98,13 +92,7 @@ impl BreakClock {
         };
         let duration = l.time + back;
         if duration <= rest.earliest {
-            return Some(RouteEval {
-                distance,
-                duration,
-                lateness: l.lateness,
-                lateness_cost: l.lateness_cost,
-                rest: None,
-            });
+            return Some(RouteEval::of(l, distance, duration, None));
         }
         finish_after(self.after, distance, back)
     }

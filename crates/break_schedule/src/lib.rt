@@ -10,8 +10,8 @@ pub use break_clock::route_eval::RouteEval;
 pub use break_clock::schedule::Riding;
 pub use break_clock::{
     Customer, Customers, DistanceMatrix, Label, Network, Problem, RouteLimits, TimeWindow, Vehicle,
-    VehicleBreak, abs, customer_at, get, infinity, is_finite, largest, max, min, penalty_at, scale,
-    serve_at, total_less, travel_time, window_at,
+    VehicleBreak, abs, customer_at, get, infinity, is_finite, is_penalised, is_windowed, largest,
+    max, min, penalty_at, scale, serve_at, total_less, travel_time, window_at,
 };
 
 // The drive to the next stop, on the clock and in distance.

@@ -10,7 +10,7 @@ use Rattle.call_words.specs.Words.{put}
 
 -- one list after the other
 pub put_both : (xs us vs : List ℕ) (at : ℕ) {ys zs : List ℕ} → at ≤ length xs
-    → ys ≡ paste xs at (drop 0 us) (length us) → zs ≡ paste ys (at + length us) (drop 0 vs) (length vs) → zs ≡ put xs at (us ++ vs)
+    → ys ≡ paste xs at us (length us) → zs ≡ paste ys (at + length us) vs (length vs) → zs ≡ put xs at (us ++ vs)
 put_both xs us vs at {ys} {zs} h e f =
     let l : length (take at xs ++ us) ≡ at + length us = rw (length-append, length-take-le at xs h) in
     let y : ys ≡ take at xs ++ us ++ drop (at + length us) xs = e ∙ rw (take-length us) in

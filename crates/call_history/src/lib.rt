@@ -5,7 +5,7 @@ ghost use Rattle.std.specs.Prelude.{◌≡◌, ◌++◌, ◌+◌, ◌*◌, ◌�
 ghost use Rattle.call_words.specs.planner.Told.{told};
 ghost use Rattle.call_words.specs.Words.{answer_words, put};
 
-use call_words::{Reduction, Refusal, copy_part};
+use call_words::{Reduction, Refusal};
 
 // Of the crates below, passed on to those above.
 pub use call_words::{Problem, Vehicle, well_formed, words_at};
@@ -28,6 +28,7 @@ pub fn record_slices(history: &mut [u16], i: usize, lengths: &[u16], stops: &[u1
     ensures { history.new ≡ put history.old (i * (length lengths.now + length stops.now)) (lengths.now ++ stops.now) }
 {
     let at = i * (lengths.len() + stops.len());
-    copy_part(history, at, lengths, 0, lengths.len());
-    copy_part(history, at + lengths.len(), stops, 0, stops.len());
+    let behind = at + lengths.len();
+    history[at..behind].copy_from_slice(lengths);
+    history[behind..behind + stops.len()].copy_from_slice(stops);
 }

@@ -17,7 +17,8 @@ use Rattle.recorded_call.specs.models.Problem.{Problem}
 use Rattle.recorded_call.specs.plan.Plan.{Slices}
 use Rattle.recorded_call.specs.local_search.declared.rounds.Reduction.{Reduction}
 use Rattle.recorded_call.specs.local_search.Rounds.{Result}
-use Rattle.recorded_call.specs.entry.Table.{Work, Inputs, Row, table, first_applying, refusal}
+use Rattle.recorded_call.specs.entry.declared.Work.{Work}
+use Rattle.recorded_call.specs.entry.Table.{Inputs, Row, table, first_applying, refusal}
 use Rattle.recorded_call.specs.entry.Given.{minimise_inputs, eliminate_inputs}
 use Rattle.recorded_call.specs.call_words.declared.Words.{Words}
 use Rattle.recorded_call.specs.planner.Calls.{Answer, refused, answered, Reply, reply, public_minimise, public_eliminate}
@@ -143,23 +144,23 @@ formed calls tapes b e =
 
 -- a call that passes, and those after it
 record Passing (there : Work) (w : Words) (ws : List Words) (left : ℕ) : Type 0 where
-  small : w.small ≤ there.u16_cells
-  wide : w.wide ≤ there.f64_cells
+  small : w.work.u16_cells ≤ there.u16_cells
+  wide : w.work.f64_cells ≤ there.f64_cells
   tape : w.tape ≤ left
   others : calls_pass there ws (left - w.tape) ≡ true
 
 passing : (there : Work) (w : Words) (ws : List Words) (left : ℕ) → calls_pass there (w ∷ ws) left ≡ true → Passing there w ws left
 unfolding calls_pass call_passes
 passing there w ws left e =
-    let small = leb w.small there.u16_cells in
-    let wide = leb w.wide there.f64_cells in
+    let small = leb w.work.u16_cells there.u16_cells in
+    let wide = leb w.work.f64_cells there.f64_cells in
     let tape = leb w.tape left in
     let others = calls_pass there ws (left - w.tape) in
     let cells = and_second (kind_passes w) (small && wide) (and_first (kind_passes w && (small && wide)) (tape && others) e) in
     let e₁ = and_second (kind_passes w && (small && wide)) (tape && others) e in
     record {
-      small = leb-true w.small there.u16_cells (and_first small wide cells);
-      wide = leb-true w.wide there.f64_cells (and_second small wide cells);
+      small = leb-true w.work.u16_cells there.u16_cells (and_first small wide cells);
+      wide = leb-true w.work.f64_cells there.f64_cells (and_second small wide cells);
       tape = leb-true w.tape left (and_first tape others e₁);
       others = and_second tape others e₁;
     }

@@ -1,40 +1,22 @@
--- Judging the form of a list of calls: its words, the tape words that are left, and the size of the records. Assumes nothing.
-use Prim.Native.Nat.{ℕ, suc, ◌+◌, ◌*◌, ◌-◌, ◌/◌, ◌%◌, ◌≤◌, ◌<◌}
-use mathlib.Core.Path.{◌≡◌, refl, sym, ap, ◌∙◌}
-use mathlib.Core.Bool.{Bool, true, false, ◌&&◌}
+-- Judging the form of a list of calls: its words, and the tape words that are left. Assumes nothing.
+use Prim.Native.Nat.{ℕ, suc, ◌+◌, ◌*◌, ◌-◌, ◌≤◌, ◌<◌}
+use mathlib.Core.Path.{◌≡◌, ◌∙◌}
+use mathlib.Core.Bool.{true, false, ◌&&◌}
 use mathlib.Core.List.{List, ◌∷◌}
-use native.Mathlib.Nat.{div-add-mod', mul-div_cancel, mul-mod_left, mul-zero, sub-zero}
+use native.Mathlib.Nat.{sub-zero}
 use native.Mathlib.Omega.{arith}
 use lib.ListN.{length, drop, get_or}
 use lib.Seq.{get_or-drop, drop-drop}
 use lib.Dec.{eqb, leb}
-use borrow.Author.Tests.{eqb-true, eqb-false, eq-eqb, ne_eqb, le-leb, lt-leb}
-use Rattle.planner.specs.entry.Table.{Work}
+use borrow.Author.Tests.{le-leb, lt-leb}
+use Rattle.planner.specs.entry.declared.Work.{Work}
 use Rattle.call_words.specs.declared.Words.{Words}
 use Rattle.call_words.specs.Words.{words_first, words_of, call_passes, calls_pass, words_at}
-
--- ---- `is_product`
-
-module _ (whole count part : ℕ) where
-  pub product_none : part ≡ 0 → eqb whole 0 ≡ eqb whole (count * part)
-  product_none e = rw (e, mul-zero count)
-
-  pub product_rest : (whole % part ≡ 0 → ⊥) → false ≡ eqb whole (count * part)
-  product_rest h = sym (ne_eqb whole (count * part) (λ e. h (ap (λ (k : ℕ). k % part) e ∙ mul-mod_left count part)))
-
-  pub product_whole : (part ≡ 0 → ⊥) → whole % part ≡ 0 → eqb (whole / part) count ≡ eqb whole (count * part)
-  product_whole h e = go (eqb (whole / part) count) refl
-    where
-      go : (t : Bool) → eqb (whole / part) count ≡ t → t ≡ eqb whole (count * part)
-      go true f =
-          let q : whole / part ≡ count = eqb-true (whole / part) count f in
-          sym (eq-eqb whole (count * part) (rw (← q) (omega (arith, div-add-mod' whole part))))
-      go false f = sym (ne_eqb whole (count * part) (λ k. eqb-false (whole / part) count f (ap (λ (n : ℕ). n / part) k ∙ mul-div_cancel count (omega arith))))
 
 -- ---- `words_at`
 
 pub words_read : (calls : List ℕ) (at : ℕ)
-    → record { kind = get_or calls at 0; limit = get_or calls (at + 1) 0; clock = get_or calls (at + 2) 0; tape = get_or calls (at + 3) 0; small = get_or calls (at + 4) 0; wide = get_or calls (at + 5) 0 }
+    → record { kind = get_or calls at 0; limit = get_or calls (at + 1) 0; clock = get_or calls (at + 2) 0; tape = get_or calls (at + 3) 0; work = record { u16_cells = get_or calls (at + 4) 0; f64_cells = get_or calls (at + 5) 0 } }
     ≡ words_first (drop at calls)
 words_read calls at =
     let z : at + 0 ≡ at = omega arith in

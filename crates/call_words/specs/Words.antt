@@ -2,7 +2,7 @@
 use Rattle.std.specs.Prelude.{ℕ, zero, suc, ◌+◌, ◌*◌, ◌-◌, ◌/◌, Bool, true, cond, ◌&&◌, List, [], ◌∷◌, ◌++◌, length, take, drop, get_or, eqb, leb, Float, Option, Some, None}
 use Rattle.planner.specs.plan.Plan.{Slices}
 use Rattle.planner.specs.local_search.declared.rounds.Reduction.{Reduction}
-use Rattle.planner.specs.entry.Table.{Work}
+use Rattle.planner.specs.entry.declared.Work.{Work}
 use Rattle.planner.specs.Calls.{Answer, refused, answered, Reply}
 use Rattle.planner.specs.Told.{slices_of, work_of}
 use Rattle.planner.specs.Run.{Call, minimise, eliminate}
@@ -19,7 +19,7 @@ asks w = cond (eqb w.kind 0) (Some Minimise) (cond (eqb w.kind 1) (Some Eliminat
 -- six words: kind, M, K, tape words, u16 and f64 work cells
 abbrev pub words_first : List ℕ → Words
 words_first calls =
-    record { kind = get_or calls 0 0; limit = get_or calls 1 0; clock = get_or calls 2 0; tape = get_or calls 3 0; small = get_or calls 4 0; wide = get_or calls 5 0 }
+    record { kind = get_or calls 0 0; limit = get_or calls 1 0; clock = get_or calls 2 0; tape = get_or calls 3 0; work = work_of (get_or calls 4 0) (get_or calls 5 0) }
 
 -- the words of call i
 abbrev pub words_at : ℕ → List ℕ → Words
@@ -34,8 +34,8 @@ words_of (suc n) calls = words_first calls ∷ words_of n (drop 6 calls)
 abbrev pub call_of : Words → List ℕ → Call
 call_of w tapes =
     cond (eqb w.kind 0)
-    (minimise (record { limit = w.limit; clock = w.clock; tape = take w.tape tapes }) (work_of w.small w.wide))
-    (eliminate (work_of w.small w.wide))
+    (minimise (record { limit = w.limit; clock = w.clock; tape = take w.tape tapes }) w.work)
+    (eliminate w.work)
 
 -- each call's tape begins where the last one's ends
 unfoldable pub decoded : List Words → List ℕ → List Call
@@ -58,7 +58,7 @@ kind_passes w = cond (eqb w.kind 0) true (eqb w.kind 1 && (eqb w.limit 0 && (eqb
 
 -- it is lent no more work cells than there are
 unfoldable pub call_passes : Work → Words → Bool
-call_passes there w = kind_passes w && (leb w.small there.u16_cells && leb w.wide there.f64_cells)
+call_passes there w = kind_passes w && (leb w.work.u16_cells there.u16_cells && leb w.work.f64_cells there.f64_cells)
 
 -- each passes, and their tapes use up the tape words that are left
 unfoldable pub calls_pass : Work → List Words → ℕ → Bool

@@ -3,11 +3,10 @@
 #![tactic(auto)]
 
 ghost use Rattle.std.specs.Prelude.{◌≡◌, ◌+◌, ◌*◌, ◌≤◌, length, drop, eqb};
-ghost use Rattle.planner.specs.Told.{work_of};
 ghost use Rattle.call_words.specs.Words.{buffers, words_first, words_of, asks, kind_passes, call_passes, calls_pass, well_formed};
 
 // Of the crates below, passed on to those above.
-pub use planner::{Problem, Reduction, Refusal, Vehicle, copy_part};
+pub use planner::{Problem, Reduction, Refusal, Vehicle, Work, copy_part};
 
 // What a call of a list asks for.
 #[derive(Clone, Copy, PartialEq, Eq)]
@@ -23,8 +22,7 @@ pub struct Words {
     pub limit: u64,
     pub clock: u64,
     pub tape: usize,
-    pub small: usize,
-    pub wide: usize,
+    pub work: Work,
 }
 
 impl Words {
@@ -51,8 +49,10 @@ pub fn words_at(calls: &[u64], i: usize) -> Words
         limit: calls[at + 1],
         clock: calls[at + 2],
         tape: calls[at + 3] as usize,
-        small: calls[at + 4] as usize,
-        wide: calls[at + 5] as usize,
+        work: Work {
+            u16_cells: calls[at + 4] as usize,
+            f64_cells: calls[at + 5] as usize,
+        },
     }
 }
 
@@ -70,21 +70,21 @@ fn kind_passes(w: Words) -> bool
 
 // Whether the words are a call's, and it is lent no more work cells than there are.
 #[tactic(auto, unfolding(crate::specs::Words::call_passes))]
-fn call_passes(w: Words, small: usize, wide: usize) -> bool
-    ensures { result ≡ call_passes (work_of small wide) w }
+fn call_passes(w: Words, there: Work) -> bool
+    ensures { result ≡ call_passes there w }
 {
-    kind_passes(w) && w.small <= small && w.wide <= wide
+    kind_passes(w) && w.work.u16_cells <= there.u16_cells && w.work.f64_cells <= there.f64_cells
 }
 
 // Whether each call passes, and their tapes have so many words together.
-fn calls_pass(calls: &[u64], count: usize, tapes: usize, small: usize, wide: usize) -> bool
+fn calls_pass(calls: &[u64], count: usize, tapes: usize, there: Work) -> bool
     requires { length calls.now ≡ count * 6 }
-    ensures { result ≡ calls_pass (work_of small wide) (words_of count calls.now) tapes }
+    ensures { result ≡ calls_pass there (words_of count calls.now) tapes }
 {
     let mut left = tapes;
     for i in 0..count {
         let w = words_at(calls, i);
-        if !call_passes(w, small, wide) {
+        if !call_passes(w, there) {
             return false;
         }
         if left < w.tape {
@@ -99,10 +99,7 @@ fn calls_pass(calls: &[u64], count: usize, tapes: usize, small: usize, wide: usi
 fn is_product(whole: usize, count: usize, part: usize) -> bool
     ensures { result ≡ eqb whole (count * part) }
 {
-    if part == 0 {
-        return whole == 0;
-    }
-    whole % part == 0 && whole / part == count
+    count.checked_mul(part) == Some(whole)
 }
 
 // Whether the words are calls, and the numbers that they name fit what is lent.
@@ -123,5 +120,5 @@ pub fn well_formed(
     calls.len() == count * 6
         && answers.len() == count * 4
         && is_product(history.len(), count, lengths.len() + stops.len())
-        && calls_pass(calls, count, tapes.len(), work.len(), cells.len())
+        && calls_pass(calls, count, tapes.len(), Work::of(work, cells))
 }

@@ -5,5 +5,5 @@ use Rattle.call_words.specs.declared.Words.{Words}
 -- the tape words and work cells that a call is lent are there
 pub record Lent (w : Words) (from tapes work cells : ℕ) : Type 0 where
   pub tape : from + w.tape ≤ tapes
-  pub small : w.small ≤ work
-  pub wide : w.wide ≤ cells
+  pub small : w.work.u16_cells ≤ work
+  pub wide : w.work.f64_cells ≤ cells

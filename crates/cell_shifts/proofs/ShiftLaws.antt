@@ -1,56 +1,25 @@
--- The loops over cells that move: what each has done before turn i, kept by a turn, and enough at the end. Assumes nothing.
-use Prim.Native.Nat.{ℕ, ◌+◌, ◌-◌, ◌≤◌, ◌<◌, zero-le}
-use mathlib.Core.Path.{◌≡◌, refl, sym, ◌∙◌}
-use mathlib.Core.List.{List, ◌∷◌, ◌++◌}
-use native.Mathlib.Omega.{arith}
-use lib.ListN.{length, take, drop, get_or, set, length-set, length-drop}
-use lib.Seq.{take_all, get_or-drop}
-use Rattle.cells.specs.laws.Lists.{shift_in, shift_out_part, length_part}
+-- A lent part of the cells, shifted and put back. Assumes nothing.
+use Rattle.std.proofs.Common.{◌≡◌, ℕ, ◌+◌, ◌-◌, ◌≤◌, ◌<◌, List, [], ◌∷◌, ◌++◌, length, take, drop, sym, arith, append_assoc, append-nil, length-drop, drop-drop, drop_of_length-le}
+use Rattle.std.proofs.lemmas.List.{take_all}
 use Rattle.cells.specs.laws.Edits.{insert_at, cut}
-use Rattle.cells.specs.laws.Overwrite.{mix, mix_more, mix_get}
+use Rattle.cell_shifts.specs.Parts.{insert_at_part}
 
--- ---- `shift_left`: the first i cells of t are those of t₀ from n on
+module _ (s : List ℕ) (p : ℕ) where
+  whole : p ≤ length s → take (length s - p) (drop p s) ≡ drop p s
+  whole h = take_all (length s - p) (drop p s) (rw length-drop (omega arith))
 
-pub record Closing (t₀ : List ℕ) (n : ℕ) (t : List ℕ) (i : ℕ) : Type 0 where
-  pub within : i ≤ length t₀ - n
-  pub size : length t ≡ length t₀
-  pub cells : t ≡ mix (drop n t₀) t₀ i
+  rest : p ≤ length s → drop (length s - p) (drop p s) ≡ []
+  rest h = drop_of_length-le (drop p s) {i = length s - p} (rw length-drop (omega arith))
 
-module _ (t₀ : List ℕ) (n : ℕ) where
-  pub closing_none : Closing t₀ n t₀ 0
-  closing_none = record { within = zero-le; size = refl; cells = refl }
+  pub inserted : {t : List ℕ} (c : ℕ) → p < length s → t ≡ take (length (take (length s - p) (drop p s))) (c ∷ take (length s - p) (drop p s))
+      → take p s ++ (t ++ drop (length s - p) (drop p s)) ≡ take (length s) (insert_at p c s)
+  inserted c h e =
+      rw (e, whole (omega arith), rest (omega arith), append-nil, length-drop p s) (sym (insert_at_part s p c h))
 
-  pub closing_more : (t : List ℕ) (i : ℕ) → Closing t₀ n t i → i < length t₀ - n → Closing t₀ n (set t i (get_or t (i + n) 0)) (i + 1)
-  closing_more t i s h =
-      let l : length (drop n t₀) ≡ length t₀ - n = length-drop n t₀ in
-      let f : i + n ≡ n + i = omega arith in
-      let v : get_or t (i + n) 0 ≡ get_or (drop n t₀) i 0 =
-      rw (s.cells, mix_get (drop n t₀) t₀ i (i + n) 0 (omega arith) (omega arith) (omega arith), f) (sym (get_or-drop n t₀ i 0)) in
-      record {
-        within = omega arith;
-        size = length-set t i (get_or t (i + n) 0) ∙ s.size;
-        cells = rw (v, s.cells) (mix_more (drop n t₀) t₀ i 0 (omega arith) (omega arith));
-      }
-
-  pub closing_all : (t : List ℕ) (i : ℕ) → Closing t₀ n t i → length t₀ - n ≤ i → t ≡ drop n t₀ ++ drop (length t₀ - n) t₀
-  closing_all t i s h =
-      let e : i ≡ length t₀ - n = omega (arith, s.within) in
-      s.cells ∙ rw (e, take_all (length t₀ - n) (drop n t₀) (rw length-drop (omega arith)))
-
--- ---- a lent part, shifted and put back
-
-pub inserted : (s : List ℕ) (used p c : ℕ) {t : List ℕ} → p ≤ used → used < length s
-    → t ≡ take (length (take (used + 1 - p) (drop p s))) (c ∷ take (used + 1 - p) (drop p s))
-    → take p s ++ (t ++ drop (used + 1 - p) (drop p s)) ≡ insert_at p c (take used s) ++ drop (used + 1) s
-unfolding insert_at
-inserted s used p c h k e =
-    let n : length (take (used + 1 - p) (drop p s)) ≡ used + 1 - p = length_part p (used + 1) s (omega arith) (omega arith) in
-    rw (e, n) (shift_in s p used c h k)
-
-pub cut_out : (s : List ℕ) (used p n : ℕ) {t : List ℕ} → p + n ≤ used → used ≤ length s
-    → t ≡ drop n (take (used - p) (drop p s)) ++ drop (length (take (used - p) (drop p s)) - n) (take (used - p) (drop p s))
-    → take p s ++ (t ++ drop (used - p) (drop p s)) ≡ cut p n (take used s) ++ drop (used - n) s
-unfolding cut
-cut_out s used p n h k e =
-    let l : length (take (used - p) (drop p s)) ≡ used - p = length_part p used s (omega arith) k in
-    rw (e, l) (shift_out_part s p n used h k)
+  pub cut_out : {t : List ℕ} (n : ℕ) → p + n ≤ length s
+      → t ≡ drop n (take (length s - p) (drop p s)) ++ drop (length (take (length s - p) (drop p s)) - n) (take (length s - p) (drop p s))
+      → take p s ++ (t ++ drop (length s - p) (drop p s)) ≡ cut p n s ++ drop (length s - n) s
+  unfolding cut
+  cut_out n h e =
+      let a : p + (length s - p - n) ≡ length s - n = omega arith in
+      rw (e, whole (omega arith), rest (omega arith), append-nil, length-drop p s, drop-drop, drop-drop, a) (sym (append_assoc (take p s) (drop (p + n) s) (drop (length s - n) s)))

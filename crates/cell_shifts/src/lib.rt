@@ -1,4 +1,4 @@
-// Cells that move: the stops of a plan, route after route, of which the first `used` are in use, with a stop put in or some taken out.
+// Cells that move: a stop put in among others, or some taken out.
 #![tactic(auto)]
 
 ghost use Rattle.std.specs.Prelude.{◌≡◌, ◌∷◌, ◌++◌, ◌+◌, ◌-◌, ◌≤◌, ◌<◌, length, take, drop};
@@ -22,23 +22,21 @@ pub fn shift_left(tail: &mut [u16], n: usize)
     requires { n ≤ length tail.old }
     ensures { tail.new ≡ drop n tail.old ++ drop (length tail.old - n) tail.old }
 {
-    for i in 0..tail.len() - n {
-        tail[i] = tail[i + n];
-    }
+    tail.copy_within(n.., 0);
 }
 
-// The stop c goes in at p, and every later one moves one place right.
-pub fn insert_at(stops: &mut [u16], used: usize, p: usize, c: u16)
-    requires { (p ≤ used) × (used < length stops.old) }
-    ensures { stops.new ≡ insert_at p c (take used stops.old) ++ drop (used + 1) stops.old }
+// The stop c goes in at p, every later one moves one place right, and the last one falls out.
+pub fn insert_at(stops: &mut [u16], p: usize, c: u16)
+    requires { p < length stops.old }
+    ensures { stops.new ≡ take (length stops.old) (insert_at p c stops.old) }
 {
-    shift_right(&mut stops[p..used + 1], c);
+    shift_right(&mut stops[p..], c);
 }
 
-// The n stops from p on are taken out, and every later one moves n places left.
-pub fn cut(stops: &mut [u16], used: usize, p: usize, n: usize)
-    requires { (p + n ≤ used) × (used ≤ length stops.old) }
-    ensures { stops.new ≡ cut p n (take used stops.old) ++ drop (used - n) stops.old }
+// The n stops from p on are taken out, and every later one moves n places left; the last n cells keep their values.
+pub fn cut(stops: &mut [u16], p: usize, n: usize)
+    requires { p + n ≤ length stops.old }
+    ensures { stops.new ≡ cut p n stops.old ++ drop (length stops.old - n) stops.old }
 {
-    shift_left(&mut stops[p..used], n);
+    shift_left(&mut stops[p..], n);
 }

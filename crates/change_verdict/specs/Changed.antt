@@ -1,20 +1,21 @@
 -- What a stored call asks that changes a plan, and whether its answer and the plan are the stored ones. Assumes nothing.
-use Rattle.std.specs.Prelude.{ℕ, List, Bool, ◌&&◌}
-use Rattle.minimise_call.specs.models.Problem.{Problem}
-use Rattle.minimise_call.specs.plan.Plan.{Slices}
-use Rattle.minimise_call.specs.ejection_pool.Pool.{Allowance}
-use Rattle.minimise_call.specs.entry.Table.{Work}
-use Rattle.minimise_call.specs.planner.Told.{slices_of}
-use Rattle.minimise_call.specs.planner.Calls.{Reply, public_minimise, public_eliminate}
+use Rattle.std.specs.Prelude.{ℕ, List, Bool, ◌&&◌, Option, Some, None}
+use Rattle.called.specs.plan.Plan.{Slices}
+use Rattle.called.specs.ejection_pool.declared.Allowance.{Allowance}
+use Rattle.called.specs.planner.Told.{slices_of}
+use Rattle.called.specs.planner.Calls.{Reply}
+use Rattle.called.specs.declared.Change.{Change}
+use Rattle.called.specs.declared.Change.TheVariants.{Minimise, Eliminate}
 use Rattle.same_answers.specs.stored_answers.stored_values.declared.kinds.Kind.{Kind}
-use Rattle.same_answers.specs.stored_answers.stored_values.declared.kinds.Kind.TheVariants.{Minimise}
+use Rattle.same_answers.specs.stored_answers.stored_values.declared.kinds.Kind.TheVariants as kind
 use Rattle.same_answers.specs.stored_answers.declared.Stored.{Stored}
 use Rattle.same_answers.specs.stored_answers.Answers.{reply_stored, same_stored, same_plan}
 
--- a call that changes the plan: any kind but minimise is eliminate
-unfoldable pub change : Kind → Problem → Slices → Allowance → Work → Reply
-change Minimise p s given w = public_minimise p s given w
-change _ p s given w = public_eliminate p s w
+-- what a kind asks, with what a minimise may use; nothing where it is a question
+abbrev pub asked_by : Kind → Allowance → Option Change
+asked_by kind.Minimise given = Some (Minimise given)
+asked_by kind.Eliminate given = Some Eliminate
+asked_by _ given = None
 
 -- a verdict, and both slices for the next call: "each later one gets both whole as the last call left them"
 pub record Replayed : Type 0 where

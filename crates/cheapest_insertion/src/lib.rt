@@ -21,13 +21,9 @@ pub fn cheapest(times: &mut Times, routes: &Routes, c: usize, given: &Instance) 
     requires there { c < given.now.fleet.net.roads.size }
     ensures { result ≡ cheapest (of_instance given.now) (plan_of routes.now) c }
 {
-    let lengths = &*routes.lengths;
-    let mut rest = &*routes.stops;
     let mut best = None;
-    for (k, length) in lengths.iter().enumerate() {
-        let (route, more) = rest.split_at(*length as usize);
+    for (k, route) in routes.each().enumerate() {
         best = try_route(times, route, c, k, best, given);
-        rest = more;
     }
     best
 }

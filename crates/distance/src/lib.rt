@@ -11,8 +11,8 @@ ghost use Rattle.distance.specs.Seen.{Seen, NextSeen};
 // Of the crates below, passed on to those above.
 pub use place_record::{
     Customer, Customers, DistanceMatrix, Network, Problem, RouteLimits, TimeWindow, Vehicle,
-    VehicleBreak, abs, customer_at, infinity, is_finite, max, min, penalty_at, total_less,
-    window_at,
+    VehicleBreak, abs, customer_at, infinity, is_finite, is_penalised, is_windowed, max, min,
+    penalty_at, total_less, window_at,
 };
 
 // The cell from one place to another, of `n` by `n`. Every place on a checked problem lies in the matrix, so no cell is ever out of it.

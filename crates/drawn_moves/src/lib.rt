@@ -13,7 +13,7 @@ use tail_exchange::routes::{Position, Routes};
 use tail_exchange::{try_exchange, try_tails};
 
 // Of the crates below, passed on to those above.
-pub use tail_exchange::{Demand, Draws, Instance, Vehicle, eject, other_than, routes};
+pub use tail_exchange::{Demand, Draws, Instance, Sought, Vehicle, eject, other_than, routes};
 
 // A stop of route a and a stop of route b are drawn and exchanged, where both routes stay feasible.
 #[tactic(auto, using(crate::proofs::DrawnLaws::exchange_laws))]
@@ -78,7 +78,7 @@ pub fn try_move(
 {
     if draws.draw_bool(2) {
         exchange_drawn(routes, draws, a, b, given);
-        return;
+    } else {
+        tails_drawn(routes, work, draws, a, b, given);
     }
-    tails_drawn(routes, work, draws, a, b, given);
 }

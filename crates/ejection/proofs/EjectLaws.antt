@@ -1,5 +1,5 @@
 -- Laws of specs/Eject, each from the facts that the code has where it needs it. Assumes nothing.
-use Prim.Native.Nat.{ℕ, suc, ◌+◌, ◌-◌, ◌≤◌, ◌<◌}
+use Prim.Native.Nat.{ℕ, ◌+◌, ◌-◌, ◌≤◌, ◌<◌}
 use native.Mathlib.Nat.{zero-add}
 use native.Mathlib.Numerals.{add-one}
 use native.Mathlib.Omega.{arith}
@@ -9,11 +9,10 @@ use lib.ListN.{length, take, drop, length-append, length-take, length-drop}
 use lib.Seq.{paste, take_at, take_all, length-take-le}
 use Rattle.insertion.specs.laws.Lists.{paste_on}
 use Rattle.ejection.specs.Eject.{kept}
-use Rattle.ejection.specs.Asked.{kept_length}
 
 -- ---- the kept part: the front, what lies between, and the rest, copied one after the other
 
-pub kept_copied : (w r : List ℕ) (i j m : ℕ) (W1 W2 W3 : List ℕ) → i ≤ j → j < length r → m ≡ j - suc i
+pub kept_copied : (w r : List ℕ) (i j m : ℕ) (W1 W2 W3 : List ℕ) → i ≤ j → j < length r → m ≡ j - (i + 1)
     → W1 ≡ paste w 0 (drop 0 r) i → W2 ≡ paste W1 i (drop (i + 1) r) m → W3 ≡ paste W2 (i + m) (drop (j + 1) r) (length r - (j + 1))
     → take (i + m + (length r - (j + 1))) W3 ≡ kept i j r
 unfolding kept
@@ -29,6 +28,3 @@ kept_copied w r i j m W1 W2 W3 h k em e1 e2 e3 =
     let d2 : W2 ≡ (a ++ b) ++ drop (i + m) w = rw (e2, d1, paste_on w a (drop (i + 1) r) i m l1) in
     let d3 : W3 ≡ ((a ++ b) ++ drop (j + 1) r) ++ drop (i + m + n) w = rw (e3, d2, paste_on w (a ++ b) (drop (j + 1) r) (i + m) n l2, t) in
     rw (d3, take_at ((a ++ b) ++ drop (j + 1) r) (drop (i + m + n) w) (i + m + n) l3, append_assoc a b (drop (j + 1) r), em, add-one i, add-one j)
-
-pub kept_number : (r : List ℕ) (i j m : ℕ) → i ≤ j → j < length r → m ≡ j - suc i → i + m + (length r - (j + 1)) ≡ length (kept i j r)
-kept_number r i j m h k e = omega (arith, kept_length i j r h k, e)

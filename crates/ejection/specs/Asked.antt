@@ -2,19 +2,13 @@
 use Rattle.std.specs.Prelude.{ℕ, suc, ◌+◌, ◌-◌, ◌≤◌, ◌<◌, ◌≡◌, List, length, get_or}
 use Rattle.std.proofs.Common.{arith, length-append, length-take, length-drop}
 use Rattle.insertion.specs.laws.All.{all_of, all_get, all_append, all_take, all_drop}
-use Rattle.insertion.specs.models.Problem.{Problem, Stops}
+use Rattle.insertion.specs.models.Problem.{Stops}
 use Rattle.ejection.specs.Eject.{kept}
 
 -- a number of failures for each of n places: 1, and no more than one for each of 65,535 steps
 pub record Counted (n : ℕ) (failures : List ℕ) : Type 0 where
   pub cells : length failures ≡ n
   pub each : (k : ℕ) → get_or failures k 0 ≤ 65536
-
--- a route of a problem, out of which stops may go for c
-pub record Sought (p : Problem) (failures : List ℕ) (route : List ℕ) (c : ℕ) : Type 0 where
-  pub counted : Counted p.roads.size failures
-  pub stops : Stops p.roads.size route
-  pub place : c < p.roads.size
 
 -- how many stops are kept
 pub kept_length : (i j : ℕ) (r : List ℕ) → i ≤ j → j < length r → length (kept i j r) ≡ i + (j - suc i) + (length r - (j + 1))

@@ -24,4 +24,3 @@ pub use Rattle.insertion.specs.RouteLoadFeasibleLaws as RouteLoadFeasibleLaws
 pub use Rattle.insertion.specs.LocalSearchNextLaws as LocalSearchNextLaws
 pub use Rattle.insertion.specs.LocalSearchReadLaws as LocalSearchReadLaws
 pub use Rattle.insertion.specs.LocalSearchSearchLaws as LocalSearchSearchLaws
-pub use Rattle.insertion.proofs.LeftLaws as InsertionLeftLaws

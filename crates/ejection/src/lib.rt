@@ -1,7 +1,7 @@
 // The ejection (local_search/route_minimization.rs, `Pool::eject`): one stop leaves a route, or two, so that another can go in.
 #![tactic(auto)]
 
-ghost use Rattle.std.specs.Prelude.{◌≡◌, suc, ◌-◌, ◌≤◌, ◌<◌, length, get_or, take};
+ghost use Rattle.std.specs.Prelude.{◌≡◌, ◌≤◌, ◌<◌, length};
 ghost use Rattle.insertion.specs.models.Problem.{Stops};
 ghost use Rattle.ejection.specs.Eject.{kept, failures_at, failure_sum, fails_more, outranks};
 ghost use Rattle.ejection.specs.Asked.{Counted};
@@ -10,7 +10,7 @@ ghost use Rattle.ejection.specs.Asked.{Counted};
 pub use insertion::{
     Counts, Demand, DistanceMatrix, Fleet, Instance, LocalSearchNext, Pick, Reduction, Times,
     Vehicle, checked, constrained, copy_part, feasible, has_room, insertion_cost, may_pass,
-    next_pick, rounds, routes, within_capacity,
+    pick_after, rounds, routes, within_capacity,
 };
 
 // Who leaves a route and where the popped stop goes: the sum of their failures, what the insertion costs, the route, the two places in it
@@ -25,6 +25,16 @@ pub struct Ejection {
     pub pos: usize,
 }
 
+// What an ejection is sought for: the stop c, with the failures that are counted, in an instance.
+#[derive(Clone, Copy)]
+pub struct Sought<'a> {
+    pub c: usize,
+    pub failures: &'a [u32],
+    pub given: &'a Instance<'a>,
+    pub ghost place: { c < given.now.fleet.net.roads.size },
+    pub ghost counted: { Counted given.now.fleet.net.roads.size failures.now },
+}
+
 // Whether the sum of failures alone rules an ejection out.
 pub fn fails_more(failed: u32, best: Option<Ejection>) -> bool
     ensures { result ≡ fails_more failed best }
@@ -36,24 +46,7 @@ pub fn fails_more(failed: u32, best: Option<Ejection>) -> bool
 pub fn outranks(failed: u32, cost: f64, best: Option<Ejection>) -> bool
     ensures { result ≡ outranks failed cost best }
 {
-    match best {
-        None => true,
-        Some(e) => {
-            if failed == e.failed {
-                !(cost >= e.cost)
-            } else {
-                failed < e.failed
-            }
-        }
-    }
-}
-
-// How many stops lie between the places i and j.
-fn between(i: usize, j: usize) -> usize
-    requires { i ≤ j }
-    ensures { result ≡ j - suc i }
-{
-    if i < j { j - i - 1 } else { 0 }
+    best.is_none_or(|e| failed < e.failed || failed == e.failed && !(cost >= e.cost))
 }
 
 // The failures of the stop at i.
@@ -82,17 +75,16 @@ pub fn failure_sum(failures: &[u32], route: &[u16], i: usize, j: usize) -> u32
     a + b
 }
 
-// The route without the stops at i and j goes to the first work cells. Returns how many they are.
-pub fn keep(work: &mut [u16], route: &[u16], i: usize, j: usize) -> usize
+// The route without the stops at i and j goes to the first work cells. Returns these cells.
+pub fn keep<'a>(work: &'a mut [u16], route: &[u16], i: usize, j: usize) -> &'a [u16]
     requires places { (i ≤ j) × (j < length route.now) }
     requires room { length route.now ≤ length work.old }
-    ensures kept { take result work.new ≡ kept i j route.now }
-    ensures count { result ≡ length (kept i j route.now) }
+    ensures { result.now ≡ kept i j route.now }
 {
-    let m = between(i, j);
+    let between = j.saturating_sub(i + 1);
     let rest = route.len() - (j + 1);
     insertion::copy_part(work, 0, route, 0, i);
-    insertion::copy_part(work, i, route, i + 1, m);
-    insertion::copy_part(work, i + m, route, j + 1, rest);
-    i + m + rest
+    insertion::copy_part(work, i, route, i + 1, between);
+    insertion::copy_part(work, i + between, route, j + 1, rest);
+    &work[..i + between + rest]
 }

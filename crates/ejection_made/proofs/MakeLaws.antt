@@ -7,14 +7,14 @@ use lib.ListN.{length, get_or}
 use borrow.Author.Rules.{rules}
 use Rattle.ejection.specs.laws.Edits.{length_erase, get_erase_before}
 use Rattle.ejection.specs.plan.Plan.{Plan, Lent, HasPosition, HasStop, split, route, total, put_in, take_out}
-use Rattle.ejection.specs.plan.Given.{plan_of, Becomes}
+use Rattle.ejection.specs.plan.Given.{plan_of, Becomes, keeps_on}
 use Rattle.ejection.specs.plan.declared.routes.Routes.{Routes}
 use Rattle.ejection.specs.plan.Slices.{stop_within, stop_route, route_within}
 use Rattle.ejection.specs.plan.Routes.{length_take_out, route_take_out}
 use Rattle.ejection.specs.declared.Ejection.{Ejection}
 use Rattle.ejection.specs.Ejected.{Inside, kept_one, kept_two}
 use Rattle.ejection_made.specs.declared.pool.Pool.{Pool}
-use Rattle.ejection_made.specs.Made.{Made, OnTop, keeps_on, same_on, make_one, make_two, gone_one, gone_two}
+use Rattle.ejection_made.specs.Made.{Made, OnTop, same_on, make_one, make_two, gone_one, gone_two}
 
 -- ---- after a stop has been taken out
 

@@ -56,14 +56,6 @@ pub record SameCells (old new : Pool) : Type 0 where
   pub same : new.cells.ghost_name ≡ old.cells.ghost_name
   pub size : length new.cells.now ≡ length old.cells.now
 
-pub keeps_on : {a b c : Routes} → Keeps a b → Keeps b c → Keeps a c
-keeps_on f g = record {
-  same_lengths = g.same_lengths ∙ f.same_lengths;
-  same_stops = g.same_stops ∙ f.same_stops;
-  count = g.count ∙ f.count;
-  room = g.room ∙ f.room;
-}
-
 pub same_on : {a b c : Pool} → SameCells a b → SameCells b c → SameCells a c
 same_on f g = record { same = g.same ∙ f.same; size = g.size ∙ f.size }
 

@@ -14,7 +14,7 @@ use pool::Pool;
 
 // Of the crates below, passed on to those above.
 pub use ejection::{
-    Counts, Ejection, LocalSearchNext, Pick, Reduction, constrained, copy_part, next_pick, rounds,
+    Counts, Ejection, LocalSearchNext, Pick, Reduction, constrained, copy_part, pick_after, rounds,
     routes,
 };
 

@@ -3,7 +3,7 @@
 
 // Of the crates below, passed on to those above.
 pub use ejection_made::{
-    Counts, LocalSearchNext, Pick, Reduction, constrained, next_pick, pool, rounds, routes,
+    Counts, LocalSearchNext, Pick, Reduction, constrained, pick_after, pool, rounds, routes,
 };
 
 // What a call may use: the tape that it draws from, how many steps an attempt may take, and after how many steps of the call the clock stops it.

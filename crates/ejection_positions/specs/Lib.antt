@@ -13,4 +13,3 @@ pub use Rattle.ejection.specs as ejection
 pub use Rattle.ejection.specs.PlanExchanges as PlanExchanges
 pub use Rattle.ejection.specs.RouteCostVisitLaws as RouteCostVisitLaws
 pub use Rattle.ejection.specs.RouteLoadFeasibleLaws as RouteLoadFeasibleLaws
-pub use Rattle.ejection.specs.InsertionLeftLaws as InsertionLeftLaws

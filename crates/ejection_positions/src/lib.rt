@@ -1,7 +1,7 @@
 // The positions of what is kept of a route: the best of those where the popped stop goes in.
 #![tactic(auto)]
 
-ghost use Rattle.std.specs.Prelude.{◌≡◌, [], suc, ◌*◌, ◌<◌, ◌≤◌, length};
+ghost use Rattle.std.specs.Prelude.{◌≡◌, suc, ◌<◌, ◌≤◌, length};
 ghost use Rattle.ejection.specs.laws.Loops.{loop};
 ghost use Rattle.ejection.specs.models.Problem.{Stops};
 ghost use Rattle.ejection.specs.route_times.Prepared.{held};
@@ -9,12 +9,12 @@ ghost use Rattle.ejection.specs.Eject.{try_left};
 ghost use Rattle.ejection_positions.specs.Pass.{none_outranks, pass_in_kept};
 ghost use Rattle.ejection.specs.evaluation.Given.{of_instance, of_fleet};
 
-use ejection::{DistanceMatrix, has_room, insertion_cost, may_pass, outranks};
+use ejection::{has_room, insertion_cost, may_pass, outranks};
 
 // Of the crates below, passed on to those above.
 pub use ejection::{
-    Demand, Ejection, Fleet, Instance, Times, Vehicle, checked, fails_more, failure_sum, feasible,
-    keep, routes, within_capacity,
+    Demand, Ejection, Fleet, Instance, Sought, Times, Vehicle, checked, fails_more, failure_sum,
+    feasible, keep, routes, within_capacity,
 };
 
 // Who leaves: the sum of their failures, the route and their two places in it, the same one twice where one stop leaves.
@@ -41,17 +41,17 @@ fn try_in_kept(
     requires within { pos ≤ length left.now }
     requires stops { Stops fleet.now.net.roads.size left.now }
     ensures { result ≡ pass_in_kept (of_fleet fleet.now) c out.failed out.route out.first out.second left.now
-        (held (length left.now) times.now.cells.now) pos best }
+        (held (length left.now) times.now) pos best }
 {
     let cost = insertion_cost(left, pos, c, fleet.vehicle.depot_id, &fleet.net.roads);
     if outranks(out.failed, cost, best) && may_pass(left, times, pos, c, fleet) {
         Some(Ejection {
             failed: out.failed,
-            cost: cost,
+            cost,
             route: out.route,
             first: out.first,
             second: out.second,
-            pos: pos,
+            pos,
         })
     } else {
         best
@@ -70,7 +70,7 @@ fn try_positions(
     requires there { c < fleet.now.net.roads.size }
     requires stops { Stops fleet.now.net.roads.size left.now }
     ensures { result ≡ loop (suc (length left.now))
-        (pass_in_kept (of_fleet fleet.now) c out.failed out.route out.first out.second left.now (held (length left.now) times.now.cells.now)) best }
+        (pass_in_kept (of_fleet fleet.now) c out.failed out.route out.first out.second left.now (held (length left.now) times.now)) best }
 {
     let mut found = best;
     for pos in 0..left.len() + 1 {
@@ -80,27 +80,15 @@ fn try_positions(
 }
 
 // Whether no position of what is kept ranks before the best so far, whatever the tests say of it.
-fn none_outranks(
-    kept: &[u16],
-    failed: u32,
-    c: usize,
-    best: Option<Ejection>,
-    depot: usize,
-    roads: &DistanceMatrix,
-) -> bool
-    requires n_bound { (roads.now.size ≤ 256) × (length roads.now.distances ≡ roads.now.size * roads.now.size) }
-    requires home { depot < roads.now.size }
-    requires there { c < roads.now.size }
-    requires stops { Stops roads.now.size kept.now }
-    ensures { result ≡ none_outranks roads.now depot c failed kept.now best }
+fn none_outranks(kept: &[u16], failed: u32, c: usize, best: Option<Ejection>, fleet: &Fleet) -> bool
+    requires there { c < fleet.now.net.roads.size }
+    requires stops { Stops fleet.now.net.roads.size kept.now }
+    ensures { result ≡ none_outranks fleet.now.net.roads fleet.now.vehicle.depot_id c failed kept.now best }
 {
-    for pos in 0..kept.len() + 1 {
-        let cost = insertion_cost(kept, pos, c, depot, roads);
-        if outranks(failed, cost, best) {
-            return false;
-        }
-    }
-    true
+    (0..kept.len() + 1).all(|pos| {
+        let cost = insertion_cost(kept, pos, c, fleet.vehicle.depot_id, &fleet.net.roads);
+        !outranks(failed, cost, best)
+    })
 }
 
 // What is kept: the load test once, the departures and latest arrivals once where a position may rank first, then the positions.
@@ -117,14 +105,7 @@ pub fn try_left(
     ensures { result ≡ try_left (of_instance given.now) c out.failed out.route out.first out.second left.now best }
 {
     if !has_room(left, c, &given.demand, given.fleet.vehicle)
-        || none_outranks(
-            left,
-            out.failed,
-            c,
-            best,
-            given.fleet.vehicle.depot_id,
-            &given.fleet.net.roads,
-        )
+        || none_outranks(left, out.failed, c, best, &given.fleet)
     {
         return best;
     }

@@ -1,21 +1,37 @@
 -- Laws of the search for an ejection, of one stop or only then of two, each from the facts that the code has where it needs it. Assumes nothing.
-use Prim.Native.Nat.{ℕ}
-use mathlib.Core.Path.{◌≡◌}
+use Prim.Native.Nat.{ℕ, ◌≤◌, ◌<◌}
+use native.Mathlib.Omega.{arith}
+use mathlib.Core.Path.{◌≡◌, ap}
 use mathlib.Core.Bool.{true, false}
 use mathlib.Core.List.{List}
 use Rattle.std.proofs.Common.{Option, None, Some}
+use Rattle.std.specs.Option.{MatchOption}
 use Rattle.route_ejection.specs.models.Problem.{Problem}
 use Rattle.route_ejection.specs.local_search.Options.{or_else}
-use Rattle.route_ejection.specs.plan.Plan.{Plan}
+use lib.ListN.{length}
+use Rattle.route_ejection.specs.plan.Plan.{Plan, route}
+use Rattle.route_ejection.specs.plan.Slices.{length_split, length_route, route_within}
+use Rattle.route_ejection.specs.plan.Given.{plan_of}
+use Rattle.route_ejection.specs.plan.declared.routes.Routes.{Routes}
 use Rattle.route_ejection.specs.ejection.declared.Ejection.{Ejection}
 use Rattle.route_ejection.specs.ejection.Eject.{eject_one, eject_two, eject}
 use Rattle.ejection_search.specs.Some.{eject_some}
 
-module _ (p : Problem) (routes : Plan) (c : ℕ) (failures : List ℕ) (one : Option Ejection) (e : one ≡ eject_some false p routes c failures) where
-  pub eject_first : (x : Ejection) → one ≡ Some x → one ≡ eject p routes c failures
-  unfolding eject eject_some eject_one or_else
-  eject_first x h = rw (← e, h)
+-- a route is no longer than the stops
+pub route_room : (lent : Routes) (k : ℕ) {r : List ℕ} → k < length (plan_of lent) → r ≡ route k (plan_of lent) → length r ≤ length lent.stops.now
+route_room lent k h e =
+    omega (
+      arith,
+      ap length e,
+      length_route lent.lengths.now lent.stops.now lent.lent.inside k,
+      route_within lent.lengths.now k (rw length_split at h),
+      lent.lent.inside,
+    )
 
-  pub eject_second : (two : Option Ejection) → one ≡ None → two ≡ eject_some true p routes c failures → two ≡ eject p routes c failures
+-- P is what is known of the answer x where no single one works
+module _ (p : Problem) (routes : Plan) (c : ℕ) (failures : List ℕ) (x : Option Ejection) (P : Type 0) where
+  pub eject_both : (one : Option Ejection) → one ≡ eject_some false p routes c failures → (P → x ≡ eject_some true p routes c failures)
+      → MatchOption one P (λ e. x ≡ Some e) → x ≡ eject p routes c failures
   unfolding eject eject_some eject_one eject_two or_else
-  eject_second two h g = rw (← e, h) g
+  eject_both None e second h = rw (← e) (second h)
+  eject_both (Some y) e second h = rw (← e) h

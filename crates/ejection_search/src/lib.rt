@@ -2,12 +2,11 @@
 // two.
 #![tactic(auto)]
 
-ghost use Rattle.std.specs.Prelude.{◌≡◌, ◌<◌, ◌≤◌, length};
+ghost use Rattle.std.specs.Prelude.{◌≡◌, ◌≤◌, length};
 ghost use Rattle.route_ejection.specs.laws.All.{All};
 ghost use Rattle.route_ejection.specs.models.Problem.{Stops};
 ghost use Rattle.route_ejection.specs.plan.Given.{plan_of};
 ghost use Rattle.route_ejection.specs.ejection.Eject.{eject};
-ghost use Rattle.route_ejection.specs.ejection.Asked.{Counted, Sought};
 ghost use Rattle.ejection_search.specs.Some.{try_some, eject_some};
 ghost use Rattle.route_ejection.specs.evaluation.Given.{of_instance};
 
@@ -16,7 +15,7 @@ use route_ejection::{Ejection, try_one, try_two};
 
 // Of the crates below, passed on to those above.
 pub use route_ejection::{
-    Demand, Fleet, Instance, Times, Vehicle, checked, feasible, routes, within_capacity,
+    Demand, Fleet, Instance, Sought, Times, Vehicle, checked, feasible, routes, within_capacity,
 };
 
 // One stop or two leave route k.
@@ -24,22 +23,20 @@ pub use route_ejection::{
 fn try_some(
     work: &mut [u16],
     times: &mut Times,
-    failures: &[u32],
+    sought: &Sought,
     route: &[u16],
     k: usize,
     two: bool,
-    c: usize,
     best: Option<Ejection>,
-    given: &Instance,
 ) -> Option<Ejection>
-    requires sought { Sought (of_instance given.now) failures.now route.now c }
+    requires stops { Stops sought.now.given.now.fleet.net.roads.size route.now }
     requires room { length route.now ≤ length work.old }
-    ensures { result ≡ try_some two (of_instance given.now) c failures.now k route.now best }
+    ensures { result ≡ try_some two (of_instance sought.now.given.now) sought.now.c sought.now.failures.now k route.now best }
 {
     if two {
-        try_two(work, times, failures, route, k, c, best, given)
+        try_two(work, times, sought, route, k, best)
     } else {
-        try_one(work, times, failures, route, k, c, best, given)
+        try_one(work, times, sought, route, k, best)
     }
 }
 
@@ -47,47 +44,32 @@ fn try_some(
 fn eject_some(
     work: &mut [u16],
     times: &mut Times,
-    failures: &[u32],
+    sought: &Sought,
     routes: &Routes,
     two: bool,
-    c: usize,
-    given: &Instance,
 ) -> Option<Ejection>
-    requires stops { All (Stops given.now.fleet.net.roads.size) (plan_of routes.now) }
-    requires counted { Counted given.now.fleet.net.roads.size failures.now }
-    requires there { c < given.now.fleet.net.roads.size }
+    requires stops { All (Stops sought.now.given.now.fleet.net.roads.size) (plan_of routes.now) }
     requires room { length routes.now.stops.now ≤ length work.old }
-    ensures { result ≡ eject_some two (of_instance given.now) (plan_of routes.now) c failures.now }
+    ensures { result ≡ eject_some two (of_instance sought.now.given.now) (plan_of routes.now) sought.now.c sought.now.failures.now }
 {
-    let lengths = &*routes.lengths;
-    let mut rest = &*routes.stops;
     let mut best = None;
-    for (k, length) in lengths.iter().enumerate() {
-        let (route, more) = rest.split_at(*length as usize);
-        best = try_some(work, times, failures, route, k, two, c, best, given);
-        rest = more;
+    for (k, route) in routes.each().enumerate() {
+        best = try_some(work, times, sought, route, k, two, best);
     }
     best
 }
 
-// The best ejection for c: of one stop, or only if no single one works of two.
+// The best ejection for the stop that is to go in: of one stop, or only if no single one works of two.
 pub fn eject(
     work: &mut [u16],
     times: &mut Times,
-    failures: &[u32],
+    sought: &Sought,
     routes: &Routes,
-    c: usize,
-    given: &Instance,
 ) -> Option<Ejection>
-    requires stops { All (Stops given.now.fleet.net.roads.size) (plan_of routes.now) }
-    requires counted { Counted given.now.fleet.net.roads.size failures.now }
-    requires there { c < given.now.fleet.net.roads.size }
+    requires stops { All (Stops sought.now.given.now.fleet.net.roads.size) (plan_of routes.now) }
     requires room { length routes.now.stops.now ≤ length work.old }
-    ensures { result ≡ eject (of_instance given.now) (plan_of routes.now) c failures.now }
+    ensures { result ≡ eject (of_instance sought.now.given.now) (plan_of routes.now) sought.now.c sought.now.failures.now }
 {
-    let one = eject_some(work, times, failures, routes, false, c, given);
-    match one {
-        Some(_) => one,
-        None => eject_some(work, times, failures, routes, true, c, given),
-    }
+    let one = eject_some(work, times, sought, routes, false);
+    one.or_else(|| eject_some(work, times, sought, routes, true))
 }

@@ -11,7 +11,8 @@ use Rattle.route_elimination.specs.local_search.declared.rounds.Reduction.{Reduc
 use Rattle.route_elimination.specs.local_search.Planned.{Planned}
 use Rattle.route_elimination.specs.local_search.Search.{Answers}
 use Rattle.route_elimination.specs.elimination_moves.Eliminate.{eliminate_routes}
-use Rattle.refusals.specs.entry.Table.{Work, refusal}
+use Rattle.refusals.specs.entry.declared.Work.{Work}
+use Rattle.refusals.specs.entry.Table.{refusal}
 use Rattle.refusals.specs.entry.Given.{eliminate_inputs}
 use Rattle.refusals.specs.EntryAdmittedLaws.{Accepted, eliminate_accepted}
 use Rattle.planner.specs.Calls.{refused, answered, Reply, plan_in, public_eliminate}

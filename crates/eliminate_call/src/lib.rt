@@ -7,6 +7,7 @@ ghost use Rattle.planner.specs.Calls.{public_eliminate};
 ghost use Rattle.planner.specs.Told.{reply_of, slices_of, work_of, FreeIfAnswered};
 
 use planner::instance;
+use refusals::Work;
 use refusals::calls::eliminate_refusal;
 use route_elimination::eliminate_routes;
 
@@ -26,10 +27,10 @@ pub fn eliminate(
         (work_of (length work.old) (length cells.now)) }
     ensures work { FreeIfAnswered result work.old work.new }
 {
-    eliminate_refusal(lengths, stops, problem, work.len(), cells.len())?; // before the first attempt
+    eliminate_refusal(lengths, stops, problem, Work::of(work, cells))?; // before the first attempt
     let routes = eliminate_routes(lengths, stops, work, &instance(problem));
     Ok(Reduction {
         routes,
-        counts: Counts { steps: 0, draws: 0 },
+        counts: Counts::default(),
     })
 }

@@ -6,10 +6,8 @@ ghost use Rattle.std.specs.Prelude.{◌≡◌, ◌+◌, ◌≤◌, length};
 ghost use Rattle.plan_copy.specs.plan.Plan.{split};
 ghost use Rattle.plan_copy.specs.plan.Given.{plan_of, Keeps};
 ghost use Rattle.route_saving.specs.local_search.Options.{then_some};
-ghost use Rattle.route_saving.specs.route_cost.Route.{gain_floor};
 ghost use Rattle.route_saving.specs.elimination_moves.Eliminate.{without_route};
-ghost use Rattle.route_saving.specs.emptied_route.Attempts.{Attempted, emptied, fewer, Left};
-ghost use Rattle.route_saving.specs.evaluation.Given.{of_instance};
+ghost use Rattle.route_saving.specs.emptied_route.Attempts.{of_elimination, Attempted, emptied, fewer, Left};
 
 use plan_copy::{keep, restore};
 use route_saving::routes::Routes;
@@ -18,8 +16,8 @@ use route_saving::{empty_route, is_finite, saved_by};
 // Of the crates below, passed on to those above.
 pub use plan_copy::drop_empty;
 pub use route_saving::{
-    Counts, Demand, Instance, LocalSearchNext, Pick, Problem, Reduction, Vehicle, next_pick,
-    route_cost_gain_floor, routes,
+    Counts, Demand, Elimination, Instance, LocalSearchNext, Pick, Problem, Reduction, Vehicle,
+    pick_after, route_cost_gain_floor, routes,
 };
 
 // Route r goes and its stops find other places, where that gains: else both slices are put back from the work cells.
@@ -28,19 +26,17 @@ fn try_without(
     work: &mut [u16],
     r: usize,
     saved: f64,
-    floor: f64,
-    given: &Instance,
+    given: &Elimination,
 ) -> bool
-    requires attempted { Attempted (of_instance given.now) routes.old r }
+    requires attempted { Attempted (of_elimination given.now) routes.old r }
     requires room { length routes.old.lengths.now + length routes.old.stops.now ≤ length work.old }
-    requires floor_is { floor ≡ gain_floor given.now.fleet.net.roads }
     ensures plan { then_some result (split (fewer routes.old.lengths.now routes.new.lengths.now) routes.new.stops.now)
-        ≡ emptied (of_instance given.now) saved (plan_of routes.old) r }
+        ≡ emptied (of_elimination given.now) saved (plan_of routes.old) r }
     ensures slices { Left result routes.old routes.new }
     ensures kept { Keeps routes.old routes.new }
 {
     keep(work, routes);
-    let gained = empty_route(routes, r, saved, floor, given);
+    let gained = empty_route(routes, r, saved, given);
     if gained {
         return true;
     }
@@ -50,24 +46,17 @@ fn try_without(
 
 // The attempt: where the other routes take the stops of route r for less than it costs they are the plan, in one length less, and else both
 // slices are as before. The work cells have room for both slices.
-pub fn without_route(
-    routes: &mut Routes,
-    work: &mut [u16],
-    r: usize,
-    floor: f64,
-    given: &Instance,
-) -> bool
-    requires attempted { Attempted (of_instance given.now) routes.old r }
+pub fn without_route(routes: &mut Routes, work: &mut [u16], r: usize, given: &Elimination) -> bool
+    requires attempted { Attempted (of_elimination given.now) routes.old r }
     requires room { length routes.old.lengths.now + length routes.old.stops.now ≤ length work.old }
-    requires floor_is { floor ≡ gain_floor given.now.fleet.net.roads }
     ensures plan { then_some result (split (fewer routes.old.lengths.now routes.new.lengths.now) routes.new.stops.now)
-        ≡ without_route (of_instance given.now) (plan_of routes.old) r }
+        ≡ without_route (of_elimination given.now) (plan_of routes.old) r }
     ensures slices { Left result routes.old routes.new }
     ensures kept { Keeps routes.old routes.new }
 {
-    let saved = saved_by(routes, r, given);
+    let saved = saved_by(routes, r, given.instance);
     if is_finite(saved) {
-        return try_without(routes, work, r, saved, floor, given);
+        return try_without(routes, work, r, saved, given);
     }
     false
 }

@@ -6,7 +6,7 @@ use mathlib.Core.Path.{◌≡◌, sym, ◌∙◌}
 use mathlib.Core.Bool.{Bool, true, false}
 use mathlib.Core.List.{List, ◌++◌}
 use lib.ListN.{length, get_or, take, drop}
-use lib.Seq.{take_at, take-length}
+use lib.Seq.{take_at}
 use lib.IntN.{ℤ}
 use borrow.Author.Rules.{rules}
 use Rattle.reinsertion_candidates.specs.laws.Edits.{erase, cut, cut_one, length_cut}
@@ -63,10 +63,10 @@ module _ (demand : List ℤ) (left : List ℕ) (h : 0 < length left) (i : ℕ) (
   pub taken_end : i + 1 ≤ length left
   taken_end = omega (arith, taken_inside)
 
-  pub taken_rest : (after : List ℕ) → after ≡ cut i 1 (take (length left) left) ++ drop (length left - 1) left
+  pub taken_rest : (after : List ℕ) → after ≡ cut i 1 left ++ drop (length left - 1) left
       → take (length left - 1) after ≡ erase (first_largest demand left) left
   taken_rest after f =
       let l : length (cut i 1 left) ≡ length left - 1 = omega (arith, length_cut i 1 left taken_end) in
-      rw (f, ← e, take-length left) (take_at (cut i 1 left) (drop (length left - 1) left) (length left - 1) l ∙ cut_one i left)
+      rw (f, ← e) (take_at (cut i 1 left) (drop (length left - 1) left) (length left - 1) l ∙ cut_one i left)
 
 pub ruleset taken_laws = (rules, taken_inside, taken_end, taken_rest)

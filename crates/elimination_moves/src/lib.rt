@@ -53,7 +53,6 @@ pub fn take_largest(left: &mut [u16], demand: &Demand) -> u16
 {
     let i = first_largest(left, demand);
     let c = left[i];
-    let count = left.len();
-    cut(left, count, i, 1);
+    cut(left, i, 1);
     c
 }

@@ -1,22 +1,21 @@
 -- Laws of a route that goes and of its stops that are moved, each from the facts that the code has where it needs it. Assumes nothing.
-use Prim.Native.Nat.{ℕ, ◌+◌, ◌-◌, ◌≤◌, ◌<◌}
+use Prim.Native.Nat.{ℕ, ◌+◌, ◌-◌, ◌≤◌}
 use native.Mathlib.Omega.{arith}
 use mathlib.Core.Path.{◌≡◌, sym, ap, ap₂, subst, ◌∙◌}
 use mathlib.Core.Bool.{false}
 use mathlib.Core.List.{List, [], ◌∷◌, ◌++◌}
 use Rattle.std.proofs.Common.{Option, None, Some}
-use lib.ListN.{length, get_or, take, drop, length-drop, length-append}
-use lib.Seq.{paste, take-paste, take_at, drop_at, length-take-le}
+use lib.ListN.{length, get_or, take, drop}
+use lib.Seq.{take_at, drop_at, length-take-le}
 use lib.Ieee.{Float, lt}
-use borrow.Author.Rules.{rules}
 use Rattle.moved_stops.specs.floats.Binary64.{◌⊖◌}
 use Rattle.route_removal.specs.laws.All.{All, all_get}
 use Rattle.route_removal.specs.laws.Edits.{erase, length_erase, all_erase}
 use Rattle.moved_stops.specs.models.Problem.{Problem, Stops}
-use Rattle.route_removal.specs.plan.Plan.{Plan, Holds, Lent, split, route, total, offset}
+use Rattle.route_removal.specs.plan.Plan.{Plan, Holds, Lent, split, route, total}
 use Rattle.route_removal.specs.plan.Given.{plan_of, Keeps}
 use Rattle.route_removal.specs.plan.declared.routes.Routes.{Routes}
-use Rattle.route_removal.specs.plan.Slices.{flat_split, route_split, route_within, length_split, length_route, total_erase, total_append}
+use Rattle.route_removal.specs.plan.Slices.{flat_split, route_within, length_split, length_route, total_erase, total_append}
 use Rattle.moved_stops.specs.local_search.Options.{bind, then_some}
 use Rattle.moved_stops.specs.route_cost.Route.{gain_floor}
 use Rattle.moved_stops.specs.local_search.Planned.{planned_stops}
@@ -42,21 +41,15 @@ module _ (p : Problem) (lent : Routes) (r : ℕ) (g : Attempted p lent r) where
 
 -- ---- the stops of route r
 
-module _ (ls st : List ℕ) (r at : ℕ) (l : Lent ls st) (h : r < length ls) (e : at ≡ offset ls r) where
-  pub keep_end : at + get_or ls r 0 ≤ length st
-  keep_end = omega (arith, route_within ls r h, l.inside)
+module _ (lent : Routes) (r : ℕ) {t : List ℕ} (e : t ≡ route r (plan_of lent)) where
+  keep_count : length t ≡ get_or lent.lengths.now r 0
+  keep_count = ap length e ∙ length_route lent.lengths.now lent.stops.now lent.lent.inside r
 
-  pub keep_done : (left after : List ℕ) → get_or ls r 0 ≤ length left → after ≡ paste left 0 (drop at st) (get_or ls r 0) → take (get_or ls r 0) after ≡ route r (split ls st)
-  keep_done left after k f =
-      let n = get_or ls r 0 in
-      let z : n ≡ 0 + n = omega arith in
-      ap (λ (x : List ℕ). take n x) f
-      ∙ ap (λ (m : ℕ). take m (paste left 0 (drop at st) n)) z
-      ∙ take-paste left 0 (drop at st) n (omega arith) (omega (arith, keep_end, length-drop at st))
-      ∙ ap (λ (x : ℕ). take n (drop x st)) e
-      ∙ sym (route_split ls st r)
+  pub keep_end : (left : List ℕ) → get_or lent.lengths.now r 0 ≤ length left → length t ≤ length left
+  keep_end left k = omega (arith, keep_count)
 
-pub ruleset keep_laws = (rules, keep_end, keep_done)
+  pub keep_done : (left : List ℕ) → take (get_or lent.lengths.now r 0) (t ++ drop (length t) left) ≡ route r (plan_of lent)
+  keep_done left = take_at t (drop (length t) left) (get_or lent.lengths.now r 0) keep_count ∙ e
 
 -- ---- route r goes
 

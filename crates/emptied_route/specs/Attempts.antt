@@ -9,6 +9,12 @@ use Rattle.route_removal.specs.plan.declared.routes.Routes.{Routes}
 use Rattle.moved_stops.specs.local_search.Options.{bind}
 use Rattle.moved_stops.specs.local_search.Planned.{Planned}
 use Rattle.moved_stops.specs.elimination_moves.Eliminate.{moving, move_all, if_gained}
+use Rattle.moved_stops.specs.evaluation.Given.{of_instance}
+use Rattle.emptied_route.specs.declared.elimination.Elimination.{Elimination}
+
+-- the problem that a search is over
+abbrev pub of_elimination : Elimination → Problem
+of_elimination e = of_instance e.instance.now
 
 -- route r is to go from a plan
 pub record Attempted (p : Problem) (lent : Routes) (r : ℕ) : Type 0 where

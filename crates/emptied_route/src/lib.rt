@@ -7,13 +7,15 @@ ghost use Rattle.route_removal.specs.plan.Plan.{Lent, split, route, total};
 ghost use Rattle.route_removal.specs.plan.Given.{plan_of, Keeps};
 ghost use Rattle.moved_stops.specs.models.Problem.{Stops};
 ghost use Rattle.moved_stops.specs.local_search.Options.{then_some};
-ghost use Rattle.moved_stops.specs.route_cost.Route.{gain_floor};
 ghost use Rattle.moved_stops.specs.elimination_moves.Eliminate.{move_all};
 ghost use Rattle.moved_stops.specs.elimination_moves.Largest.{in_order};
 ghost use Rattle.moved_stops.specs.stop_moves.Moves.{held_by};
-ghost use Rattle.emptied_route.specs.Attempts.{Attempted, emptied, fewer, Accepted};
+ghost use Rattle.emptied_route.specs.Attempts.{of_elimination, Attempted, emptied, fewer, Accepted};
 ghost use Rattle.moved_stops.specs.evaluation.Given.{of_instance};
 
+pub mod elimination;
+
+pub use elimination::Elimination;
 use moved_stops::move_all;
 use route_removal::routes::Routes;
 use route_removal::{copy_part, erase_route};
@@ -21,7 +23,7 @@ use route_removal::{copy_part, erase_route};
 // Of the crates below, passed on to those above.
 pub use moved_stops::{
     Counts, Demand, Instance, LocalSearchNext, Pick, Problem, Reduction, Vehicle, is_finite,
-    next_pick, route_cost_gain_floor, worth,
+    pick_after, route_cost_gain_floor, worth,
 };
 pub use route_removal::routes;
 
@@ -31,8 +33,8 @@ fn keep_route(left: &mut [u16], routes: &Routes, r: usize)
     requires room { get_or routes.now.lengths.now r 0 ≤ length left.old }
     ensures { take (get_or routes.now.lengths.now r 0) left.new ≡ route r (plan_of routes.now) }
 {
-    let at = routes.begins(r);
-    copy_part(left, 0, routes.stops, at, routes.lengths[r] as usize);
+    let route = routes.route(r);
+    left[..route.len()].copy_from_slice(route);
 }
 
 // The stops that are left go to their places in the routes.
@@ -57,12 +59,11 @@ fn move_into(
     move_all(&mut others, left, saved, given)
 }
 
-// Route r goes and its stops find other places, where that gains more than `floor`: else what is left is no plan to go on with.
-pub fn empty_route(routes: &mut Routes, r: usize, saved: f64, floor: f64, given: &Instance) -> bool
-    requires attempted { Attempted (of_instance given.now) routes.old r }
-    requires floor_is { floor ≡ gain_floor given.now.fleet.net.roads }
+// Route r goes and its stops find other places, where that gains more than the floor: else what is left is no plan to go on with.
+pub fn empty_route(routes: &mut Routes, r: usize, saved: f64, given: &Elimination) -> bool
+    requires { Attempted (of_elimination given.now) routes.old r }
     ensures plan { then_some result (split (fewer routes.old.lengths.now routes.new.lengths.now) routes.new.stops.now)
-        ≡ emptied (of_instance given.now) saved (plan_of routes.old) r }
+        ≡ emptied (of_elimination given.now) saved (plan_of routes.old) r }
     ensures accepted { result ≡ true → Accepted routes.old.lengths.now routes.new.lengths.now }
     ensures kept { Keeps routes.old routes.new }
 {
@@ -76,10 +77,10 @@ pub fn empty_route(routes: &mut Routes, r: usize, saved: f64, floor: f64, given:
         routes.stops,
         &mut left[..count],
         saved,
-        given,
+        given.instance,
     );
     let Some(added) = sum else {
         return false;
     };
-    added < saved - floor
+    added < saved - given.floor
 }

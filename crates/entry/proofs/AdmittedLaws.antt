@@ -17,7 +17,8 @@ use Rattle.local_search.specs.ModelsValidLaws.{valid_count, valid_fit, valid_dem
 use Rattle.local_search.specs.plan.Plan.{Slices, total, split}
 use Rattle.local_search.specs.plan.Slices.{flat_split_all}
 use Rattle.local_search.specs.Planned.{Planned}
-use Rattle.entry.specs.Table.{Work, stop_passes, stops_pass, bad_lengths, is_empty, too_few, refusal}
+use Rattle.entry.specs.declared.Work.{Work}
+use Rattle.entry.specs.Table.{stop_passes, stops_pass, bad_lengths, is_empty, too_few, refusal}
 use Rattle.entry.specs.Given.{problem_inputs, route_inputs, schedule_inputs, eliminate_inputs, minimise_inputs}
 use Rattle.entry.specs.Rows.{problem_rows, route_rows, plan_rows, work_rows, minimise_rows, or_else, problem_refusal, route_refusal, schedule_refusal, eliminate_refusal, minimise_refusal}
 use Rattle.entry.proofs.StopsLaws.{both, stops_distinct, distinct_few, distinct_outside}

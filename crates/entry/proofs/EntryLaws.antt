@@ -12,7 +12,8 @@ use Rattle.local_search.specs.laws.Searches.{and_first, and_second, or_neither}
 use Rattle.local_search.specs.models.Problem.{Problem}
 use Rattle.local_search.specs.models.Valid.{sizes_pass, values_pass, windows_pass, depot_passes, valid}
 use Rattle.local_search.specs.plan.Plan.{Slices, total}
-use Rattle.entry.specs.Table.{Work, Inputs, bad_lengths, stops_pass, table, first_applying, refusal}
+use Rattle.entry.specs.declared.Work.{Work}
+use Rattle.entry.specs.Table.{Inputs, bad_lengths, stops_pass, table, first_applying, refusal}
 use Rattle.entry.specs.Given.{entry}
 use Rattle.entry.proofs.StopsLaws.{both}
 

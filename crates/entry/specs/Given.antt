@@ -5,7 +5,8 @@ use Rattle.refusal.specs.Number.{number}
 use Rattle.local_search.specs.models.declared.vehicle.VehicleBreak.{VehicleBreak}
 use Rattle.local_search.specs.models.Problem.{Problem}
 use Rattle.local_search.specs.plan.Plan.{Slices}
-use Rattle.entry.specs.Table.{Work, Inputs, refusal}
+use Rattle.entry.specs.declared.Work.{Work}
+use Rattle.entry.specs.Table.{Inputs, refusal}
 
 -- a call that is given the problem alone
 abbrev pub problem_inputs : Problem → Inputs

@@ -5,8 +5,6 @@ pub mod Table
 pub mod Given
 -- the table's rows in groups, as the code asks them
 pub mod Rows
--- row 6 in code: the stops so far, marked
-pub mod Marks
 -- crates below, passed on to those above
 pub use Rattle.local_search.specs.laws as laws
 pub use Rattle.local_search.specs.floats as floats

@@ -6,7 +6,8 @@ use Rattle.local_search.specs.models.declared.vehicle.VehicleBreak.{VehicleBreak
 use Rattle.local_search.specs.models.Problem.{Problem}
 use Rattle.local_search.specs.models.Valid.{rest_passes, sizes_pass, values_pass, windows_pass, depot_passes}
 use Rattle.local_search.specs.plan.Plan.{Slices}
-use Rattle.entry.specs.Table.{Work, bad_break, bad_lengths, stops_pass, is_empty, too_few, table, first_applying, refusal}
+use Rattle.entry.specs.declared.Work.{Work}
+use Rattle.entry.specs.Table.{bad_break, bad_lengths, stops_pass, is_empty, too_few, table, first_applying, refusal}
 use Rattle.entry.specs.Given.{problem_inputs, route_inputs, schedule_inputs, eliminate_inputs, minimise_inputs}
 
 -- rows 1 to 4; `beside` says whether the floats given beside the problem pass row 2

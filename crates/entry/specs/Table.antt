@@ -6,11 +6,7 @@ use Rattle.local_search.specs.models.declared.vehicle.VehicleBreak.{VehicleBreak
 use Rattle.local_search.specs.models.Problem.{Problem, depot}
 use Rattle.local_search.specs.models.Valid.{rest_passes, sizes_pass, values_pass, windows_pass, depot_passes}
 use Rattle.local_search.specs.plan.Plan.{Slices, total}
-
--- how many work cells a call is lent; no row asks what is in them
-pub record Work : Type 0 where
-  pub u16_cells : ℕ
-  pub f64_cells : ℕ
+use Rattle.entry.specs.declared.Work.{Work}
 
 -- What a call is given: none where the call has no such input.
 pub record Inputs : Type 0 where

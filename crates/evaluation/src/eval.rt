@@ -16,12 +16,7 @@ pub fn is_feasible(e: Option<RouteEval>) -> bool
 pub fn limited(e: Option<RouteEval>, limits: RouteLimits) -> Option<RouteEval>
     ensures { result ≡ limited limits e }
 {
-    let x = e?;
-    if limits.allow(x.distance, x.duration) {
-        e
-    } else {
-        None
-    }
+    e.filter(|x| limits.allow(x.distance, x.duration))
 }
 
 // A route as far as it has been driven: its label, the distance so far, and the last stop.

@@ -4,11 +4,11 @@
 ghost use Rattle.std.specs.Prelude.{◌≡◌};
 ghost use Rattle.floats.specs.Binary64.{+∞, is_finite, max, min, abs, is_sign_negative, total_key, total_less};
 
-// +infinity, Rust's `f64::INFINITY`, which no constant can be here.
+// +infinity, with its value as a promise.
 pub fn infinity() -> f64
     ensures { result ≡ +∞ }
 {
-    1.0 / 0.0
+    f64::INFINITY
 }
 
 // The absolute value of x: -0.0 becomes 0.0, and a NaN stays a NaN.

@@ -17,7 +17,7 @@ ghost use Rattle.cheapest_insertion.specs.evaluation.Given.{of_instance};
 use cheapest_insertion::cheapest;
 use ejection_pool::pool::Pool;
 use ejection_pool::routes::Routes;
-use made_room::{Draws, eject, make_room, perturb};
+use made_room::{Draws, Sought, eject, make_room, perturb};
 
 // Of the crates below, passed on to those above.
 pub use cheapest_insertion::{Counts, Demand, Instance, Times, Vehicle};
@@ -58,7 +58,12 @@ pub fn force(
     ensures kept { Keeps routes.old routes.new }
     ensures cells { SameCells pool.old pool.new }
 {
-    let found = eject(work, times, failures, routes, c as usize, given);
+    let sought = Sought {
+        c: c as usize,
+        failures,
+        given,
+    };
+    let found = eject(work, times, &sought, routes);
     let steps = counts.steps + 1;
     let Some(e) = found else {
         return Err(Counts {

@@ -2,42 +2,21 @@
 // may go in there. The definitions of the whole search and their laws are in specs/.
 #![tactic(auto)]
 
-ghost use Rattle.std.specs.Prelude.{◌≡◌, [], ◌<◌, ◌≤◌, length, take, drop};
+ghost use Rattle.std.specs.Prelude.{◌≡◌, [], ◌<◌, ◌≤◌, length};
 ghost use Rattle.route_times.specs.models.Problem.{Stops};
-ghost use Rattle.route_times.specs.quick_test.Quick.{may_fit};
 ghost use Rattle.route_times.specs.Prepared.{held};
 ghost use Rattle.insertion.specs.Cheapest.{cheaper};
 ghost use Rattle.insertion.specs.Pass.{may_pass, pass_position};
 ghost use Rattle.route_times.specs.evaluation.Given.{of_fleet};
 
-use route_times::{Network, may_fit, trial_ok};
+use route_times::{may_fit, trial_ok};
 
 // Of the crates below, passed on to those above.
 pub use route_times::{
     Counts, Demand, DistanceMatrix, Fleet, Insertion, Instance, LocalSearchNext, Pick, Reduction,
-    Times, Vehicle, checked, constrained, copy_part, feasible, has_room, insertion_cost, next_pick,
-    rounds, routes, within_capacity,
+    Times, Vehicle, checked, constrained, copy_part, feasible, has_room, insertion_cost,
+    pick_after, rounds, routes, within_capacity,
 };
-
-// The quick test by the departures and latest arrivals.
-fn quick(route: &[u16], times: &Times, pos: usize, c: usize, depot: usize, net: &Network) -> bool
-    requires home { depot < net.now.roads.size }
-    requires there { c < net.now.roads.size }
-    requires within { pos ≤ length route.now }
-    requires stops { Stops net.now.roads.size route.now }
-    ensures { result ≡ may_fit net.now.places net.now.roads depot route.now (take (length route.now) times.now.cells.now)
-        (take (length route.now) (drop 256 times.now.cells.now)) pos c }
-{
-    may_fit(
-        route,
-        &times.cells[0..256],
-        &times.cells[256..512],
-        pos,
-        c,
-        depot,
-        net,
-    )
-}
 
 // Whether c may go in at pos of a route that has room for it: the quick test and then the check of the trial route, where they are
 // needed. The times are those that `prepare` keeps.
@@ -46,12 +25,20 @@ pub fn may_pass(route: &[u16], times: &Times, pos: usize, c: usize, fleet: &Flee
     requires there { c < fleet.now.net.roads.size }
     requires within { pos ≤ length route.now }
     requires stops { Stops fleet.now.net.roads.size route.now }
-    ensures { result ≡ may_pass (of_fleet fleet.now) route.now (held (length route.now) times.now.cells.now) pos c }
+    ensures { result ≡ may_pass (of_fleet fleet.now) route.now (held (length route.now) times.now) pos c }
 {
     if !fleet.needed {
         return true;
     }
-    let fits = quick(route, times, pos, c, fleet.vehicle.depot_id, &fleet.net);
+    let fits = may_fit(
+        route,
+        times.departures,
+        times.latest,
+        pos,
+        c,
+        fleet.vehicle.depot_id,
+        &fleet.net,
+    );
     fits && trial_ok(route, pos, c, fleet)
 }
 
@@ -76,14 +63,14 @@ pub fn try_position(
     requires there { c < fleet.now.net.roads.size }
     requires within { pos ≤ length route.now }
     requires stops { Stops fleet.now.net.roads.size route.now }
-    ensures { result ≡ pass_position (of_fleet fleet.now) c k route.now (held (length route.now) times.now.cells.now) pos best }
+    ensures { result ≡ pass_position (of_fleet fleet.now) c k route.now (held (length route.now) times.now) pos best }
 {
     let cost = insertion_cost(route, pos, c, fleet.vehicle.depot_id, &fleet.net.roads);
     if cheaper(cost, best) && may_pass(route, times, pos, c, fleet) {
         Some(Insertion {
-            cost: cost,
+            cost,
             route: k,
-            pos: pos,
+            pos,
         })
     } else {
         best

@@ -1,5 +1,5 @@
 // What a stop put in at a position adds to the distance of a route (local_search/route_minimization.rs, `Pool::insertion_cost`), and the stops on either
-// side of that position. No travel time is read, so the matrix of the contract has none.
+// side of that position. No travel time is read.
 #![tactic(auto)]
 
 ghost use Rattle.std.specs.Prelude.{◌≡◌, [], ◌*◌, ◌<◌, ◌≤◌, length};
@@ -13,7 +13,7 @@ pub use local_search::feasible::{checked, constrained, feasible, trial_ok};
 pub use local_search::rounds::{Counts, Next as LocalSearchNext, Reduction};
 pub use local_search::{
     Customer, Demand, DistanceMatrix, Fleet, Insertion, Instance, Network, Pick, TimeWindow,
-    Vehicle, abs, copy_part, customer_at, cut, has_room, infinity, insert_at, max, min, next_pick,
+    Vehicle, abs, copy_part, customer_at, cut, has_room, infinity, insert_at, max, min, pick_after,
     rounds, route_cost_gain_floor, route_cost_route_distance, routes, travel_time, within_capacity,
 };
 
@@ -22,20 +22,14 @@ pub fn prev_stop(depot: usize, route: &[u16], pos: usize) -> usize
     requires { pos ≤ length route.now }
     ensures { result ≡ prev_stop depot route.now pos }
 {
-    if pos == 0 {
-        return depot;
-    }
-    route[pos - 1] as usize
+    route[..pos].last().map_or(depot, |c| *c as usize)
 }
 
 // The stop at position pos of a route, the depot after the last.
 pub fn next_stop(depot: usize, route: &[u16], pos: usize) -> usize
     ensures { result ≡ next_stop depot route.now pos }
 {
-    if pos < route.len() {
-        return route[pos] as usize;
-    }
-    depot
+    route.get(pos).map_or(depot, |c| *c as usize)
 }
 
 // What c at position pos of a route adds to its distance.

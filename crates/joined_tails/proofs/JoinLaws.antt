@@ -3,24 +3,24 @@ use Prim.Native.Nat.{ℕ, ◌+◌, ◌-◌, ◌≤◌, ◌<◌, zero-le}
 use native.Mathlib.Nat.{zero-add}
 use native.Mathlib.Omega.{arith}
 use mathlib.Core.Path.{◌≡◌, refl, sym, ap, ◌∙◌}
-use mathlib.Core.Bool.{Bool, false, ◌&&◌}
+use mathlib.Core.Bool.{Bool, true, false, not}
+use lib.Dec.{eqb}
+use borrow.Author.Tests.{ne_eqb}
 use mathlib.Core.List.{List, [], ◌∷◌}
-use lib.ListN.{length, get_or, take, drop, set, length-append, length-drop, length-set}
-use lib.IntN.{ℤ}
+use lib.ListN.{length, get_or, take, drop, set, length-drop, length-set}
 use lib.Seq.{paste, take-paste, length-paste, take-take, drop-drop, length-take-le, get_or-set_other}
 use mir.Syntax.{w64}
 use mir.Val.{Fits}
 use Rattle.stop_exchange.specs.laws.All.{all_get}
 use Rattle.stop_exchange.specs.laws.Lists.{drop_take}
-use Rattle.stop_exchange.specs.models.declared.vehicle.Vehicle.{Vehicle}
-use Rattle.stop_exchange.specs.models.Problem.{Problem, of_demand, Stops}
+use Rattle.stop_exchange.specs.models.Problem.{Problem, Stops}
 use Rattle.stop_exchange.specs.plan.Plan.{Plan, HasPosition, route, total, offset, non_empty, exchange_tails}
 use Rattle.stop_exchange.specs.plan.Given.{plan_of}
 use Rattle.stop_exchange.specs.plan.declared.routes.Routes.{Routes}
 use Rattle.stop_exchange.specs.plan.Slices.{length_route, route_split, route_within, total_set, position_route, position_within}
 use Rattle.stop_exchange.specs.PlanExchanges.{length_exchange_tails, occurs_exchange_tails, number_exchange_tails, first_exchange_tails}
 use Rattle.stop_exchange.specs.PlanPlanLaws.{position_upto, position_fits, position_length_fits}
-use Rattle.stop_exchange.specs.route_load.Feasible.{load, fits, feasible}
+use Rattle.stop_exchange.specs.route_load.Feasible.{feasible}
 use Rattle.stop_exchange.specs.local_search.Planned.{Planned, planned_stops, planned_as}
 use Rattle.stop_exchange.specs.perturbation.Parts.{joined, joined_stands}
 
@@ -50,6 +50,9 @@ module _ (r : Routes) (a i b j : ℕ) (d : a ≡ b → ⊥) (f : HasPosition (pl
   pub joined_there : (w w₁ : List ℕ) → length s ≤ length w → length w₁ ≡ length w → i + (get_or ls b 0 - j) ≤ length w₁
   joined_there w w₁ h e = omega (arith, joined_in_use)
 
+  pub joined_taken : (w w₁ : List ℕ) → length s ≤ length w → length w₁ ≡ length w → i + (get_or ls b 0 - j) ≡ length (take (i + (get_or ls b 0 - j)) w₁)
+  joined_taken w w₁ h e = sym (length-take-le _ w₁ (joined_there w w₁ h e))
+
   pub front_there : (w : List ℕ) → length s ≤ length w → 0 + i ≤ length w
   front_there w h = omega (arith, joined_in_use)
 
@@ -58,11 +61,6 @@ module _ (r : Routes) (a i b j : ℕ) (d : a ≡ b → ⊥) (f : HasPosition (pl
 
   pub tail_read : (q : ℕ) → q ≡ offset ls b → q + j + (get_or ls b 0 - j) ≤ length s
   tail_read q e = omega (arith, r.lent.inside, position_within ls s r.lent b j g, route_within ls b (position_route ls s b j g))
-
-  pub joined_count : i + (get_or ls b 0 - j) ≡ length (joined a i b j (plan_of r))
-  unfolding joined
-  joined_count =
-      rw (length-append (take i (route a (plan_of r))) (drop j (route b (plan_of r))), length-take-le i (route a (plan_of r)) f.within, length-drop j (route b (plan_of r)), length_route ls s r.lent.inside b)
 
   pub joined_cells : (w : List ℕ) {w₁ w₂ : List ℕ} (p q : ℕ) → length s ≤ length w → p ≡ offset ls a → q ≡ offset ls b → w₁ ≡ paste w 0 (drop p s) i
       → w₂ ≡ paste w₁ i (drop (q + j) s) (get_or ls b 0 - j) → take (i + (get_or ls b 0 - j)) w₂ ≡ joined a i b j (plan_of r)
@@ -81,38 +79,39 @@ module _ (r : Routes) (a i b j : ℕ) (d : a ≡ b → ⊥) (f : HasPosition (pl
       rw (route_split ls s b, drop_take j (get_or ls b 0) (drop (offset ls b) s), drop-drop j (offset ls b) s, eq) in
       rw (e₂, take-paste w₁ i (drop (q + j) s) m (omega (arith, joined_in_use)) iq, first, front, tail)
 
-pub ruleset join_laws = (position_route, position_upto, position_within, position_fits, position_length_fits, joined_fits, joined_there, front_there, front_read, tail_read, joined_count, joined_cells)
+pub ruleset join_laws = (position_route, position_upto, position_within, position_fits, position_length_fits, joined_fits, joined_there, front_there, front_read, tail_read, joined_cells)
 
--- ---- m work cells hold it
+-- ---- r is what they are joined to
 
-module _ (plan : Plan) (a i b j m : ℕ) (w : List ℕ) (c : m ≡ length (joined a i b j plan)) (e : take m w ≡ joined a i b j plan) where
-  pub cells_stops : (n : ℕ) → Planned n plan → (a ≡ b → ⊥) → HasPosition plan a i → HasPosition plan b j → Stops n (take m w)
+module _ (plan : Plan) (a i b j : ℕ) {r : List ℕ} (e : r ≡ joined a i b j plan) where
+  pub joined_stops : (n : ℕ) → Planned n plan → (a ≡ b → ⊥) → HasPosition plan a i → HasPosition plan b j → Stops n r
   unfolding joined
-  cells_stops n r d f g =
+  joined_stops n h d f g =
       let x = exchange_tails a i b j plan in
       let y : Planned n x = planned_as n plan x (omega (arith, number_exchange_tails a i b j plan d f.there g.there f.within g.within))
-      (λ k. occurs_exchange_tails a i b j plan d k f.there g.there) r in
+      (λ k. occurs_exchange_tails a i b j plan d k f.there g.there) h in
       let z : Stops n (route a x) = all_get a [] (planned_stops n x y) (rw (length_exchange_tails a i b j plan) f.there) in
       rw (e, ← first_exchange_tails a i b j plan d f.there g.there) z
 
-  pub cells_within : (demand : List ℤ) (vehicle : Vehicle) (v : Bool) → v ≡ fits (of_demand demand vehicle) (load demand (take m w))
-      → v ≡ fits (of_demand demand vehicle) (load demand (joined a i b j plan))
-  cells_within demand vehicle v f = f ∙ ap (λ (r : List ℕ). fits (of_demand demand vehicle) (load demand r)) e
-
-  pub cells_none : (p : Problem) → m ≡ 0 → false ≡ joined_stands p a i b j plan
-  unfolding joined_stands non_empty
-  cells_none p h = go (joined a i b j plan) (sym c ∙ h)
+  has_stops : (xs : List ℕ) → non_empty xs ≡ not (eqb (length xs) 0)
+  unfolding non_empty
+  has_stops [] = refl
+  has_stops (x ∷ xs) = sym (ap not (ne_eqb (length (x ∷ xs)) 0 some))
     where
-      go : (r : List ℕ) → length r ≡ 0 → false ≡ (non_empty r && feasible p r)
-      go [] k = refl
-      go (x ∷ r) k = absurd (omega arith)
+      some : length (x ∷ xs) ≡ 0 → ⊥
+      some e = omega arith
 
-  pub cells_feasible : (p : Problem) (v : Bool) → (m ≡ 0 → ⊥) → v ≡ feasible p (take m w) → v ≡ joined_stands p a i b j plan
-  unfolding joined_stands non_empty
-  cells_feasible p v h k = k ∙ ap (feasible p) e ∙ go (joined a i b j plan) (λ z. h (c ∙ z))
-    where
-      go : (r : List ℕ) → (length r ≡ 0 → ⊥) → feasible p r ≡ (non_empty r && feasible p r)
-      go [] k = absurd (k refl)
-      go (x ∷ r) k = refl
+  -- v: whether r is empty
+  module _ (p : Problem) (v : Bool) (ev : v ≡ eqb (length r) 0) where
+    has : non_empty r ≡ not v
+    has = has_stops r ∙ ap not (sym ev)
 
-pub ruleset cells_laws = (cells_stops, cells_within, cells_none, cells_feasible)
+    pub joined_none : v ≡ true → not v ≡ joined_stands p a i b j plan
+    unfolding joined_stands
+    joined_none h = rw (← e, has, h)
+
+    pub joined_some : (x : Bool) → v ≡ false → x ≡ feasible p r → x ≡ joined_stands p a i b j plan
+    unfolding joined_stands
+    joined_some x h f = rw (← e, has, h) f
+
+pub ruleset joined_laws = (joined_none, joined_some)

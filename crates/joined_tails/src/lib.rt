@@ -2,7 +2,7 @@
 // (local_search/route_minimization.rs, `Pool::perturb`).
 #![tactic(auto)]
 
-ghost use Rattle.std.specs.Prelude.{◌≡◌, ◌≤◌, length, take};
+ghost use Rattle.std.specs.Prelude.{◌≡◌, ◌≤◌, length};
 ghost use Rattle.stop_exchange.specs.models.Problem.{of_demand};
 ghost use Rattle.stop_exchange.specs.plan.Plan.{HasPosition};
 ghost use Rattle.stop_exchange.specs.plan.Given.{plan_of};
@@ -16,29 +16,28 @@ use stop_exchange::{copy_part, feasible, within_capacity};
 
 // Of the crates below, passed on to those above.
 pub use stop_exchange::{
-    Demand, Draws, Instance, Vehicle, eject, other_than, routes, try_exchange,
+    Demand, Draws, Instance, Sought, Vehicle, eject, other_than, routes, try_exchange,
 };
 
-// The front of route a up to its position goes to the first work cells, and behind it the tail of route b from its. Returns how many stops these are.
+// The front of route a up to its position goes to the first work cells, and behind it the tail of route b from its. Returns these cells.
 #[tactic(auto, using(crate::proofs::JoinLaws::join_laws))]
-fn join(routes: &Routes, work: &mut [u16], a: Position, b: Position) -> usize
+fn join<'a>(routes: &Routes, work: &'a mut [u16], a: Position, b: Position) -> &'a [u16]
     requires other { a.route ≡ b.route → ⊥ }
     requires first { HasPosition (plan_of routes.now) a.route a.pos }
     requires second { HasPosition (plan_of routes.now) b.route b.pos }
     requires has_room { length routes.now.stops.now ≤ length work.old }
-    ensures count { result ≡ length (joined a.route a.pos b.route b.pos (plan_of routes.now)) }
-    ensures cells { take result work.new ≡ joined a.route a.pos b.route b.pos (plan_of routes.now) }
+    ensures { result.now ≡ joined a.route a.pos b.route b.pos (plan_of routes.now) }
 {
     let p = routes.begins(a.route);
     let q = routes.begins(b.route) + b.pos;
     let m = routes.lengths[b.route] as usize - b.pos;
     copy_part(work, 0, routes.stops, p, a.pos);
     copy_part(work, a.pos, routes.stops, q, m);
-    a.pos + m
+    &work[..a.pos + m]
 }
 
 // Whether the front of route a up to its position with the tail of route b from its behind it has stops and is feasible. It is put into the work cells.
-#[tactic(auto, using(crate::proofs::JoinLaws::cells_laws))]
+#[tactic(auto, using(crate::proofs::JoinLaws::joined_laws))]
 pub fn joined_stands(
     routes: &Routes,
     work: &mut [u16],
@@ -53,16 +52,12 @@ pub fn joined_stands(
     requires planned { Planned given.now.fleet.net.roads.size (plan_of routes.now) }
     ensures { result ≡ joined_stands (of_instance given.now) a.route a.pos b.route b.pos (plan_of routes.now) }
 {
-    let m = join(routes, work, a, b);
-    if m == 0 {
-        return false;
-    }
-    feasible(&work[..m], given)
+    let route = join(routes, work, a, b);
+    !route.is_empty() && feasible(route, given)
 }
 
 // Whether the load of the front of route a up to its position with the tail of route b from its behind it is within capacity. It is put into the work
 // cells.
-#[tactic(auto, using(crate::proofs::JoinLaws::cells_laws))]
 pub fn joined_within(
     routes: &Routes,
     work: &mut [u16],
@@ -79,6 +74,6 @@ pub fn joined_within(
     ensures { result ≡ fits (of_demand demand.now.cells.now vehicle)
         (load demand.now.cells.now (joined a.route a.pos b.route b.pos (plan_of routes.now))) }
 {
-    let m = join(routes, work, a, b);
-    within_capacity(&work[..m], demand, vehicle)
+    let route = join(routes, work, a, b);
+    within_capacity(route, demand, vehicle)
 }

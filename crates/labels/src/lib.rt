@@ -7,8 +7,8 @@ ghost use Rattle.labels.specs.Labels.{serve_at, serve, served_from, sooner, earl
 // Of the crates below, passed on to those above.
 pub use distance::{
     Customer, Customers, DistanceMatrix, Network, Problem, RouteLimits, TimeWindow, Vehicle,
-    VehicleBreak, abs, customer_at, get, infinity, is_finite, largest, max, min, penalty_at, scale,
-    total_less, travel_time, window_at,
+    VehicleBreak, abs, customer_at, get, infinity, is_finite, is_penalised, is_windowed, largest,
+    max, min, penalty_at, scale, total_less, travel_time, window_at,
 };
 
 // The vehicle at a stop with its service done. `rest` is the break, if taken: the index in the route of the stop that it comes before the service of, and its
@@ -119,7 +119,7 @@ impl Label {
     fn sooner(y: Label, x: Label) -> bool
         ensures { result ≡ sooner y x }
     {
-        y.time < x.time || y.time == x.time && y.lateness_cost < x.lateness_cost
+        (y.time, y.lateness_cost) < (x.time, x.lateness_cost)
     }
 
     // The earlier of two labels, the first on a tie.

@@ -1,14 +1,10 @@
 // The most that the lateness of any plan can cost (`lateness_bound` of evaluation/mod.rs).
-ghost use Rattle.std.specs.Prelude.{◌≡◌, ◌≤◌, pos, length};
+ghost use Rattle.std.specs.Prelude.{◌≡◌, ◌≤◌, pos};
 ghost use Rattle.std.specs.Float.{binary64};
 ghost use Rattle.std.specs.Float.Ieee.{of_int};
-ghost use Rattle.route_worth.specs.models.Problem.{Square};
 ghost use Rattle.lateness_bound.specs.Bound.{with_window, with_penalty, latest_window, dearest_penalty, slowest, lateness_bound};
 
-use route_worth::{
-    Customers, DistanceMatrix, Network, TimeWindow, has_soft_windows, largest, max, penalty_at,
-    window_at,
-};
+use route_worth::{Network, TimeWindow, has_soft_windows, largest, max, penalty_at, window_at};
 
 // The larger of `most` and both ends of a window, if there is one.
 fn with_window(most: f64, window: Option<TimeWindow>) -> f64
@@ -25,31 +21,31 @@ fn with_penalty(most: f64, penalty: Option<f64>) -> f64
 }
 
 // The latest end of any window, 0 where there is none.
-fn latest_window(places: &Customers) -> f64
-    requires { (length places.now.ready ≡ length places.now.flags) × (length places.now.due ≡ length places.now.flags) }
-    ensures { result ≡ latest_window places.now.ready places.now.due places.now.flags }
+fn latest_window(net: &Network) -> f64
+    ensures { result ≡ latest_window net.now.places.ready net.now.places.due net.now.places.flags }
 {
-    (0..places.len()).fold(0.0, |most, c| with_window(most, window_at(c, places)))
+    (0..net.places.len()).fold(0.0, |most, c| with_window(most, window_at(c, &net.places)))
 }
 
 // The dearest penalty of any place, with a window or without, 0 where there is none.
-fn dearest_penalty(places: &Customers) -> f64
-    requires { length places.now.penalty ≡ length places.now.flags }
-    ensures { result ≡ dearest_penalty places.now.penalty places.now.flags }
+fn dearest_penalty(net: &Network) -> f64
+    ensures { result ≡ dearest_penalty net.now.places.penalty net.now.places.flags }
 {
-    (0..places.len()).fold(0.0, |most, c| with_penalty(most, penalty_at(c, places)))
+    (0..net.places.len()).fold(
+        0.0,
+        |most, c| with_penalty(most, penalty_at(c, &net.places)),
+    )
 }
 
 // The slowest travel between any two places, a place and itself included.
 #[tactic(auto, using(crate::proofs::BoundLaws::slowest_laws))]
-fn slowest(roads: &DistanceMatrix) -> f64
-    requires { Square roads.now }
-    ensures { result ≡ slowest roads.now }
+fn slowest(net: &Network) -> f64
+    ensures { result ≡ slowest net.now.roads }
 {
-    if roads.times.len() == 0 {
-        largest(roads.distances)
+    if net.roads.times.is_empty() {
+        largest(net.roads.distances)
     } else {
-        largest(roads.times)
+        largest(net.roads.times)
     }
 }
 
@@ -68,10 +64,10 @@ pub fn lateness_bound(net: &Network) -> f64
 {
     if has_soft_windows(net.places.flags) {
         let count = count_as_float(net.roads.size);
-        let slow = slowest(&net.roads);
+        let slow = slowest(net);
         let long = largest(net.places.service);
-        let late = latest_window(&net.places);
-        let dear = dearest_penalty(&net.places);
+        let late = latest_window(net);
+        let dear = dearest_penalty(net);
         return count * dear * (late + count * (slow + long));
     }
     0.0

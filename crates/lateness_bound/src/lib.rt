@@ -3,7 +3,7 @@
 
 pub mod bound;
 
-use route_worth::{Customers, DistanceMatrix, Network};
+use route_worth::Network;
 
 // Of the crates below, passed on to those above.
 pub use route_worth::{

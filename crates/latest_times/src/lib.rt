@@ -13,17 +13,14 @@ use quick_fit::{TimeWindow, customer_at, min, travel_time};
 pub use quick_fit::{
     Counts, Demand, DistanceMatrix, Fleet, Insertion, Instance, LocalSearchNext, Network, Pick,
     Reduction, Vehicle, checked, constrained, copy_part, feasible, has_room, infinity,
-    insertion_cost, leave, may_fit, next_pick, rounds, routes, trial_ok, within_capacity,
+    insertion_cost, leave, may_fit, pick_after, rounds, routes, trial_ok, within_capacity,
 };
 
 // When service may start at the earliest, where there is a window.
 fn earliest_start(window: Option<TimeWindow>) -> f64
     ensures { result ≡ earliest_start window }
 {
-    match window {
-        None => -infinity(),
-        Some(tw) => tw.ready,
-    }
+    window.map_or(-infinity(), |tw| tw.ready)
 }
 
 // When service may start at the latest, where there is a window.

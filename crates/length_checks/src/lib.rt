@@ -7,8 +7,8 @@ ghost use Rattle.entry.specs.Table.{bad_lengths};
 
 // Of the crates below, passed on to those above.
 pub use entry::{
-    Refusal, RouteEval, Vehicle, break_schedule_schedule, evaluation_check, route_cost_gain_floor,
-    route_cost_route_distance,
+    Refusal, RouteEval, Vehicle, Work, break_schedule_schedule, evaluation_check,
+    route_cost_gain_floor, route_cost_route_distance,
 };
 
 // The sum of the lengths.
@@ -20,6 +20,7 @@ fn total(lengths: &[u16]) -> usize
 }
 
 // Whether there are over 256 lengths, or they do not sum to the number of stops.
+#[tactic(auto, unfolding(entry::specs::Table::bad_lengths))]
 pub fn bad_lengths(lengths: &[u16], stops: &[u16]) -> bool
     ensures { result ≡ bad_lengths (record { lengths = lengths.entry.now; stops = stops.now }) }
 {

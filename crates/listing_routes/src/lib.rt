@@ -1,7 +1,7 @@
 // The lines of routes, numbered from 1, put on a page.
 #![tactic(auto)]
 
-ghost use Rattle.std.specs.Prelude.{◌≡◌, ◌*◌, ◌<◌, ◌≤◌, length, take};
+ghost use Rattle.std.specs.Prelude.{◌≡◌, ◌*◌, ◌<◌, ◌≤◌, length};
 ghost use Rattle.listing_lines.specs.laws.All.{All};
 ghost use Rattle.listing_lines.specs.models.Problem.{Stops, Demands};
 ghost use Rattle.listing_lines.specs.plan.Given.{plan_of};
@@ -37,23 +37,18 @@ fn put_route(page: &mut Page<'_>, number: u64, route: &[u16], problem: &Problem)
     put_route_line(page, number, sum, distance as u64, route);
 }
 
-// The lines of the first `left` routes, numbered from 1.
-pub fn put_routes(page: &mut Page<'_>, routes: &Routes, left: usize, problem: &Problem)
-    requires room { HasRoom page.old (route_lines (of_problem problem.now) 1 (take left (plan_of routes.now))) }
+// The lines of the routes, numbered from 1.
+pub fn put_routes(page: &mut Page<'_>, routes: &Routes, problem: &Problem)
+    requires room { HasRoom page.old (route_lines (of_problem problem.now) 1 (plan_of routes.now)) }
     requires few { problem.now.roads.now.size ≤ 256 }
     requires cells { length problem.now.roads.now.distances ≡ problem.now.roads.now.size * problem.now.roads.now.size }
     requires depot_in { problem.now.vehicle.depot_id < problem.now.roads.now.size }
     requires demands { Demands problem.now.roads.now.size problem.now.demand.now }
-    requires there { left ≤ length routes.now.lengths.now }
-    requires stops { All (Stops problem.now.roads.now.size) (take left (plan_of routes.now)) }
-    requires prints { All (Prints (of_problem problem.now)) (take left (plan_of routes.now)) }
-    ensures { Puts page.old (route_lines (of_problem problem.now) 1 (take left (plan_of routes.now))) page.new }
+    requires stops { All (Stops problem.now.roads.now.size) (plan_of routes.now) }
+    requires prints { All (Prints (of_problem problem.now)) (plan_of routes.now) }
+    ensures { Puts page.old (route_lines (of_problem problem.now) 1 (plan_of routes.now)) page.new }
 {
-    let lengths = &routes.lengths[..left];
-    let mut rest = &routes.stops[..];
-    for (k, length) in lengths.iter().enumerate() {
-        let (route, more) = rest.split_at(*length as usize);
+    for (k, route) in routes.each().enumerate() {
         put_route(page, k as u64 + 1, route, problem);
-        rest = more;
     }
 }

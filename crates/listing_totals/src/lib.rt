@@ -6,9 +6,11 @@ ghost use Rattle.listing_numbers.specs.listing.Decimal.{text, decimal};
 ghost use Rattle.listing_numbers.specs.listing.Listing.{first_line, last_line, refusal_line};
 ghost use Rattle.listing_numbers.specs.listing.Written.{Room, Written};
 ghost use Rattle.listing_numbers.specs.Put.{HasRoom, Puts};
+ghost use Rattle.refusal.specs.Number.{number};
 
 // Of the crates below, passed on to those above.
 pub use listing_numbers::{Counts, Page, Problem, Vehicle};
+pub use refusal::Refusal;
 
 // A line of a word and a number.
 fn put_line(page: &mut Page<'_>, word: &[u8], n: u64)
@@ -39,11 +41,11 @@ pub fn put_last_line(page: &mut Page<'_>, counts: Counts, given: u64, left: u64)
 }
 
 // The line of a refusal, from the start of a slice on: the position behind it.
-pub fn put_refusal(out: &mut [u8], number: u64) -> usize
-    requires { Room out.old 0 (refusal_line number) }
-    ensures { Written out.old 0 (refusal_line number) out.new result }
+pub fn put_refusal(out: &mut [u8], refusal: Refusal) -> usize
+    requires { Room out.old 0 (refusal_line (number refusal)) }
+    ensures { Written out.old 0 (refusal_line (number refusal)) out.new result }
 {
     let mut page = Page { out, at: 0 };
-    put_line(&mut page, b"refused ", number);
+    put_line(&mut page, b"refused ", refusal.number() as u64);
     page.at
 }

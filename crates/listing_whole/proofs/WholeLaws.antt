@@ -1,9 +1,8 @@
 -- A listing as a whole, as it is put on a page: the first line, the lines of the routes, the last line. Assumes nothing.
-use Prim.Native.Nat.{ℕ, ◌≤◌}
+use Prim.Native.Nat.{ℕ}
 use mathlib.Core.Path.{◌≡◌, sym}
 use mathlib.Core.List.{List, [], ◌∷◌}
-use lib.ListN.{length, take}
-use lib.Seq.{length-take-le}
+use lib.ListN.{length}
 use Rattle.listing_totals.specs.models.Problem.{Problem}
 use Rattle.listing_totals.specs.plan.Plan.{Plan, split}
 use Rattle.listing_totals.specs.plan.Slices.{length_split}
@@ -14,13 +13,16 @@ use Rattle.listing_totals.specs.listing_numbers.Put.{HasRoom, Puts}
 use Rattle.listing_totals.specs.listing_numbers.declared.Page.{Page}
 use Rattle.listing_totals.specs.ListingNumbersPageLaws.{room_as, puts_as, room_first, room_more, puts_more, puts_last}
 
-module _ (p : Problem) (lengths stops : List ℕ) (left : ℕ) (h : left ≤ length lengths) (counts : Counts) (given : ℕ) where
+module _ (p : Problem) (lengths stops : List ℕ) (counts : Counts) (given : ℕ) where
   abbrev plan : Plan
-  plan = take left (split lengths stops)
+  plan = split lengths stops
+
+  abbrev left : ℕ
+  left = length lengths
 
   listing_is : listing p plan counts given ≡ text (first_line left ∷ route_lines p 1 plan ∷ last_line counts.steps counts.draws given left ∷ [])
   unfolding listing
-  listing_is = rw (length-take-le left (split lengths stops) (rw (length_split lengths stops) h))
+  listing_is = rw (length_split lengths stops)
 
   module _ {first : Page} where
     module _ (r : HasRoom first (listing p plan counts given)) where

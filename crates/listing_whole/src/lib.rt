@@ -1,7 +1,7 @@
 // A listing as a whole, written into lent bytes: `put_listing` writes it from position 0 on.
 #![tactic(auto)]
 
-ghost use Rattle.std.specs.Prelude.{◌≡◌, ◌*◌, ◌<◌, ◌≤◌, length, take};
+ghost use Rattle.std.specs.Prelude.{◌≡◌, ◌*◌, ◌<◌, ◌≤◌, length};
 ghost use Rattle.listing_totals.specs.laws.All.{All};
 ghost use Rattle.listing_totals.specs.models.Problem.{Stops, Demands};
 ghost use Rattle.listing_totals.specs.plan.Given.{plan_of};
@@ -15,30 +15,29 @@ use listing_totals::{Counts, Page, Problem, Vehicle, put_first_line, put_last_li
 
 // Of the crates below, passed on to those above.
 pub use listing_routes::routes;
-pub use listing_totals::put_refusal;
+pub use listing_totals::{Refusal, put_refusal};
 
-// The listing of the first `left` routes, from position 0 on.
+// The listing of the routes, from position 0 on.
 pub fn put_listing(
     out: &mut [u8],
     routes: &Routes,
-    left: usize,
     counts: Counts,
     given: u64,
     problem: &Problem,
 ) -> usize
-    requires room { Room out.old 0 (listing (of_problem problem.now) (take left (plan_of routes.now)) counts given) }
+    requires room { Room out.old 0 (listing (of_problem problem.now) (plan_of routes.now) counts given) }
     requires few { problem.now.roads.now.size ≤ 256 }
     requires cells { length problem.now.roads.now.distances ≡ problem.now.roads.now.size * problem.now.roads.now.size }
     requires depot_in { problem.now.vehicle.depot_id < problem.now.roads.now.size }
     requires demands { Demands problem.now.roads.now.size problem.now.demand.now }
-    requires there { left ≤ length routes.now.lengths.now }
-    requires stops { All (Stops problem.now.roads.now.size) (take left (plan_of routes.now)) }
-    requires prints { All (Prints (of_problem problem.now)) (take left (plan_of routes.now)) }
-    ensures { Written out.old 0 (listing (of_problem problem.now) (take left (plan_of routes.now)) counts given) out.new result }
+    requires stops { All (Stops problem.now.roads.now.size) (plan_of routes.now) }
+    requires prints { All (Prints (of_problem problem.now)) (plan_of routes.now) }
+    ensures { Written out.old 0 (listing (of_problem problem.now) (plan_of routes.now) counts given) out.new result }
 {
+    let left = routes.lengths.len() as u64;
     let mut page = Page { out, at: 0 };
-    put_first_line(&mut page, left as u64);
-    put_routes(&mut page, routes, left, problem);
-    put_last_line(&mut page, counts, given, left as u64);
+    put_first_line(&mut page, left);
+    put_routes(&mut page, routes, problem);
+    put_last_line(&mut page, counts, given, left);
     page.at
 }

@@ -44,15 +44,13 @@ pub fn checked(route: &[u16], fleet: &Fleet) -> bool
     requires { Stops fleet.now.net.roads.size route.now }
     ensures { result ≡ checked (of_fleet fleet.now) route.now }
 {
-    if fleet.needed {
-        return route_feasible(
+    !fleet.needed
+        || route_feasible(
             route,
             fleet.vehicle.depot_id,
             RouteLimits::of(fleet.vehicle),
             &fleet.net,
-        );
-    }
-    true
+        )
 }
 
 // Whether a route with c put in at pos passes the check, where it is needed. With `has_room` it makes the trial route feasible.
@@ -60,26 +58,22 @@ pub fn trial_ok(route: &[u16], pos: usize, c: usize, fleet: &Fleet) -> bool
     requires { (c < fleet.now.net.roads.size) × (pos ≤ length route.now) × Stops fleet.now.net.roads.size route.now }
     ensures { result ≡ checked (of_fleet fleet.now) (insert_at pos c route.now) }
 {
-    if fleet.needed {
-        return trial_feasible(
+    !fleet.needed
+        || trial_feasible(
             route,
             pos,
             c,
             fleet.vehicle.depot_id,
             RouteLimits::of(fleet.vehicle),
             &fleet.net,
-        );
-    }
-    true
+        )
 }
 
 // Whether a route is feasible: within capacity, and passing the check where it is needed.
+#[tactic(auto, unfolding(route_load::specs::Feasible::feasible))]
 pub fn feasible(route: &[u16], given: &Instance) -> bool
     requires { Stops given.now.fleet.net.roads.size route.now }
     ensures { result ≡ feasible (of_instance given.now) route.now }
 {
-    if within_capacity(route, &given.demand, given.fleet.vehicle) {
-        return checked(route, &given.fleet);
-    }
-    false
+    within_capacity(route, &given.demand, given.fleet.vehicle) && checked(route, &given.fleet)
 }

@@ -2,7 +2,7 @@
 use route_order::Pick;
 
 // The pops counted and the words taken, of a call so far.
-#[derive(Clone, Copy)]
+#[derive(Clone, Copy, Default)]
 pub struct Counts {
     pub steps: u64,
     pub draws: u64,

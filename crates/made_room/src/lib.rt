@@ -11,7 +11,7 @@ use ejection_made::routes::Routes;
 use ejection_made::{Ejection, make_one, make_two};
 
 // Of the crates below, passed on to those above.
-pub use random_moves::{Draws, eject, perturb};
+pub use random_moves::{Draws, Sought, eject, perturb};
 
 // The ejection is made for c.
 pub fn make_room(routes: &mut Routes, pool: &mut Pool, e: Ejection, c: u16)
@@ -21,7 +21,7 @@ pub fn make_room(routes: &mut Routes, pool: &mut Pool, e: Ejection, c: u16)
 {
     if e.first < e.second {
         make_two(routes, pool, e, c);
-        return;
+    } else {
+        make_one(routes, pool, e, c);
     }
-    make_one(routes, pool, e, c);
 }

@@ -13,7 +13,8 @@ use Rattle.route_minimization.specs.local_search.Search.{Answers}
 use Rattle.route_minimization.specs.minimization.Minimize.{minimize_routes}
 use Rattle.route_minimization.specs.minimization_search.Minimizing.{Searching}
 use Rattle.route_minimization.specs.ejection_pool.Running.{allowance}
-use Rattle.refusals.specs.entry.Table.{Work, refusal}
+use Rattle.refusals.specs.entry.declared.Work.{Work}
+use Rattle.refusals.specs.entry.Table.{refusal}
 use Rattle.refusals.specs.entry.Given.{minimise_inputs}
 use Rattle.refusals.specs.EntryAdmittedLaws.{minimise_accepted}
 use Rattle.planner.specs.Calls.{refused, answered, Reply, plan_in, public_minimise}
@@ -30,22 +31,24 @@ module _ (p : Problem) (s : Slices) (tape : List ℕ) (limit : ℕ) (w : Work) w
     pub minimise_admitted : Admitted p
     minimise_admitted = (minimise_accepted p s w tape limit (sym e)).0.admitted
 
+    pub minimise_searches : Searching p tape limit s.lengths s.stops
+    minimise_searches =
+        let a = minimise_accepted p s w tape limit (sym e) in
+        record {
+          drawable = a.1.words;
+          limited = a.1.steps;
+          whole = a.0.sum;
+          few = a.0.few;
+          routes_few = a.0.routes;
+          planned = a.0.planned;
+        }
+
     module _ (work : List ℕ) (cells : List Float) (f : w ≡ work_of (length work) (length cells)) where
       pub minimise_times : 512 ≤ length cells
       minimise_times = omega (arith, (minimise_accepted p s w tape limit (sym e)).1.enough.f64_there, ap (λ (x : Work). x.f64_cells) f)
 
-      pub minimise_searches : Searching p tape limit s.lengths s.stops work
-      minimise_searches =
-          let a = minimise_accepted p s w tape limit (sym e) in
-          record {
-            drawable = a.1.words;
-            limited = a.1.steps;
-            whole = a.0.sum;
-            few = a.0.few;
-            routes_few = a.0.routes;
-            planned = a.0.planned;
-            work_room = omega (arith, a.1.enough.u16_there, ap (λ (x : Work). x.u16_cells) f);
-          }
+      pub minimise_room : 767 ≤ length work
+      minimise_room = omega (arith, (minimise_accepted p s w tape limit (sym e)).1.enough.u16_there, ap (λ (x : Work). x.u16_cells) f)
 
     pub minimise_answers : (clock : ℕ) (d : Reduction) (t : Slices)
         → Answers (minimize_routes (allowance limit clock tape) p (plan_in s)) (length s.lengths) d.routes d.counts t.lengths t.stops

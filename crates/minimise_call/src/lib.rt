@@ -8,8 +8,9 @@ ghost use Rattle.planner.specs.Calls.{public_minimise};
 ghost use Rattle.planner.specs.Told.{reply_of, slices_of, work_of, FreeIfAnswered};
 
 use planner::instance;
+use refusals::Work;
 use refusals::calls::minimise_refusal;
-use route_minimization::{Times, minimize_routes};
+use route_minimization::{Bench, Times, minimize_routes};
 
 // Of the crates below, passed on to those above.
 pub use planner::{Reduction, Refusal};
@@ -36,11 +37,12 @@ pub fn minimise(
         problem,
         allowance.tape,
         allowance.limit,
-        work.len(),
-        cells.len(),
+        Work::of(work, cells),
     )?; // before the first draw
-    let mut times = Times { cells };
+    let (departures, latest) = cells.split_at_mut(256);
+    let times = Times { departures, latest };
+    let mut bench = Bench { work, times };
     let given = instance(problem);
-    let done = minimize_routes(lengths, stops, work, &mut times, allowance, &given);
+    let done = minimize_routes(lengths, stops, &mut bench, allowance, &given);
     Ok(done)
 }

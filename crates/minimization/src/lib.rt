@@ -5,6 +5,6 @@
 // Of the crates below, passed on to those above.
 pub use pool_cost::{
     Allowance, Counts, Customers, Demand, DistanceMatrix, Instance, LocalSearchNext, Pick, Problem,
-    Reduction, Vehicle, constrained, copy_part, has_soft_windows, next_pick, plan_cost, rounds,
+    Reduction, Vehicle, constrained, copy_part, has_soft_windows, pick_after, plan_cost, rounds,
     routes,
 };

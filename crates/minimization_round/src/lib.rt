@@ -6,7 +6,7 @@ ghost use Rattle.std.specs.Prelude.{◌≡◌, ◌*◌, ◌<◌, ◌≤◌, leng
 ghost use Rattle.minimization.specs.models.Problem.{of_roads};
 ghost use Rattle.minimization.specs.plan.Plan.{Lent, split, padded, drop_zero};
 ghost use Rattle.minimization.specs.plan.Given.{plan_of, Keeps};
-ghost use Rattle.minimization.specs.route_order.Order.{next_pick, following};
+ghost use Rattle.minimization.specs.route_order.Order.{following};
 ghost use Rattle.minimization.specs.local_search.Planned.{Planned};
 ghost use Rattle.minimization.specs.route_cost.Route.{cost};
 ghost use Rattle.minimization.specs.local_search.Rounds.{try_each};
@@ -17,7 +17,7 @@ ghost use Rattle.route_attempt.specs.route_without.Attempting.{Attempting};
 ghost use Rattle.minimization.specs.evaluation.Given.{of_instance};
 
 use minimization::routes::Routes;
-use minimization::{LocalSearchNext as Next, next_pick, plan_cost};
+use minimization::{LocalSearchNext as Next, pick_after, plan_cost};
 use route_attempt::{attempt, drop_empty};
 
 // Of the crates below, passed on to those above.
@@ -25,7 +25,7 @@ pub use minimization::{
     Allowance, Counts, Customers, Demand, DistanceMatrix, Instance, LocalSearchNext, Pick, Problem,
     Reduction, Vehicle, constrained, has_soft_windows, rounds, routes,
 };
-pub use route_attempt::Times;
+pub use route_attempt::{Bench, Times};
 
 // What a round starts with: how many routes there are, and what they cost.
 #[derive(Clone, Copy)]
@@ -49,28 +49,19 @@ pub fn begin(lengths: &mut [u16], stops: &[u16], vehicle: Vehicle, roads: &Dista
     Round { count, before }
 }
 
-// The route that comes next after the last pick.
-fn pick_after(routes: &Routes, last: Option<Pick>) -> Option<Pick>
-    ensures { result ≡ next_pick routes.now.lengths.now last }
-{
-    next_pick(routes.lengths, last)
-}
-
 // The attempt at the route that comes next after the last pick, in a plan that costs `before`.
 pub fn try_next(
     routes: &mut Routes,
-    work: &mut [u16],
-    times: &mut Times,
+    bench: &mut Bench,
     allowance: Allowance,
     last: Option<Pick>,
     before: f64,
     counted: Counts,
     given: &Instance,
 ) -> Next
-    requires attempting { Attempting (of_instance given.now) allowance.tape.now allowance.limit routes.old work.old counted }
+    requires attempting { Attempting (of_instance given.now) allowance.tape.now allowance.limit routes.old counted }
     requires before_value { before ≡ cost (of_instance given.now) (plan_of routes.old) }
     requires few { length routes.old.lengths.now ≤ 256 }
-    requires has_room { 767 ≤ length work.old }
     requires drawn { counted.draws ≤ 500 * counted.steps }
     ensures round { tried_next (attempt (allowed allowance.entry) (of_instance given.now)) (plan_of routes.old) routes.old.lengths.now counted
         result (split (but_last routes.new.lengths.now) routes.new.stops.now) ≡ try_each (attempt (allowed allowance.entry) (of_instance given.now))
@@ -82,9 +73,7 @@ pub fn try_next(
     let Some(pick) = pick_after(routes, last) else {
         return Next::End;
     };
-    let tried = attempt(
-        routes, work, times, allowance, pick.route, before, counted, given,
-    );
+    let tried = attempt(routes, bench, allowance, pick.route, before, counted, given);
     match tried {
         Err(counts) => Next::Kept(pick, counts),
         Ok(counts) => Next::Accepted(counts),

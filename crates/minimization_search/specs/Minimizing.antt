@@ -5,11 +5,10 @@ use Rattle.minimization_round.specs.plan.Plan.{split, total}
 use Rattle.minimization_round.specs.local_search.Planned.{Planned}
 
 -- a search over a plan that fills both slices
-pub record Searching (p : Problem) (tape : List ℕ) (limit : ℕ) (lengths stops work : List ℕ) : Type 0 where
+pub record Searching (p : Problem) (tape : List ℕ) (limit : ℕ) (lengths stops : List ℕ) : Type 0 where
   pub drawable : 0 < length tape
   pub limited : limit ≤ 65535
   pub whole : total lengths ≡ length stops
   pub few : length stops ≤ 255
   pub routes_few : length lengths ≤ 256
   pub planned : Planned p.roads.size (split lengths stops)
-  pub work_room : 767 ≤ length work

@@ -17,23 +17,22 @@ use minimization_round::{LocalSearchNext as Next, Pick, begin, try_next};
 
 // Of the crates below, passed on to those above.
 pub use minimization_round::{
-    Allowance, Counts, Customers, Demand, DistanceMatrix, Instance, Problem, Reduction, Times,
-    Vehicle, constrained, has_soft_windows, rounds,
+    Allowance, Bench, Counts, Customers, Demand, DistanceMatrix, Instance, Problem, Reduction,
+    Times, Vehicle, constrained, has_soft_windows, rounds,
 };
 
 // The next attempt of a round, on the routes that are left.
 fn next_attempt(
     lengths: &mut [u16],
     stops: &mut [u16],
-    work: &mut [u16],
-    times: &mut Times,
+    bench: &mut Bench,
     allowance: Allowance,
     last: Option<Pick>,
     before: f64,
     counted: Counts,
     given: &Instance,
 ) -> Next
-    requires searching { Searching (of_instance given.now) allowance.tape.now allowance.limit lengths.old stops.old work.old }
+    requires searching { Searching (of_instance given.now) allowance.tape.now allowance.limit lengths.old stops.old }
     requires before_value { before ≡ cost (of_instance given.now) (split lengths.old stops.old) }
     requires drawn { counted.draws ≤ 500 * counted.steps }
     requires countable { counted.draws + 500 * allowance.limit < 9_000_000_000_000_000_000 }
@@ -43,32 +42,22 @@ fn next_attempt(
     ensures held { NextLeaves allowance.entry.limit given.now.fleet.net.roads.size lengths.old stops.old last counted result lengths.new stops.new }
 {
     let mut routes = Routes { lengths, stops };
-    try_next(
-        &mut routes,
-        work,
-        times,
-        allowance,
-        last,
-        before,
-        counted,
-        given,
-    )
+    try_next(&mut routes, bench, allowance, last, before, counted, given)
 }
 
 // Rounds of attempts, begun again from the shortest route as soon as one is accepted.
 pub fn search(
     lengths: &mut [u16],
     stops: &mut [u16],
-    work: &mut [u16],
-    times: &mut Times,
+    bench: &mut Bench,
     allowance: Allowance,
     given: &Instance,
 ) -> Reduction
-    requires { Searching (of_instance given.now) allowance.tape.now allowance.limit lengths.old stops.old work.old }
+    requires { Searching (of_instance given.now) allowance.tape.now allowance.limit lengths.old stops.old }
     ensures { Answers (reduce (attempt (allowed allowance.entry) (of_instance given.now)) (split lengths.old stops.old)) (length lengths.old)
         result.routes result.counts lengths.new stops.new }
 {
-    let mut counts = Counts { steps: 0, draws: 0 };
+    let mut counts = Counts::default();
     'search: loop {
         let round = begin(lengths, stops, given.fleet.vehicle, &given.fleet.net.roads);
         let count = round.count;
@@ -77,8 +66,7 @@ pub fn search(
             let next = next_attempt(
                 &mut lengths[..count],
                 stops,
-                work,
-                times,
+                bench,
                 allowance,
                 last,
                 round.before,

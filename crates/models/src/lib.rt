@@ -4,6 +4,7 @@
 
 pub mod customer;
 pub mod customers;
+pub mod flags;
 pub mod limits;
 pub mod matrix;
 pub mod network;

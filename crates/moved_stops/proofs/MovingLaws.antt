@@ -13,22 +13,11 @@ use Rattle.stop_moves.specs.laws.Edits.{erase, all_erase, length_erase}
 use Rattle.stop_moves.specs.laws.Sorts.{smallest, least_inside}
 use Rattle.stop_moves.specs.models.Problem.{Problem}
 use Rattle.stop_moves.specs.plan.Plan.{total}
-use Rattle.stop_moves.specs.plan.Given.{plan_of, Keeps}
+use Rattle.stop_moves.specs.plan.Given.{plan_of, Keeps, keeps_same, keeps_on}
 use Rattle.stop_moves.specs.plan.declared.routes.Routes.{Routes}
 use Rattle.stop_moves.specs.elimination_moves.Eliminate.{Moved, move_stop, move_all}
 use Rattle.stop_moves.specs.elimination_moves.Largest.{larger, first_largest, in_order, in_order_more}
 use Rattle.stop_moves.specs.Moves.{so_far, held_by, move_on, move_on_more, move_on_none, move_on_end, Waiting, Grown, Kept}
-
--- ---- the slices that are kept
-
-keeps_on : (a b c : Routes) → Keeps a b → Keeps b c → Keeps a c
-keeps_on a b c x y =
-    record {
-      same_lengths = y.same_lengths ∙ x.same_lengths;
-      same_stops = y.same_stops ∙ x.same_stops;
-      count = y.count ∙ x.count;
-      room = y.room ∙ x.room;
-    }
 
 -- ---- the next stop
 
@@ -81,7 +70,7 @@ module _ (p : Problem) (saved : Float) (lent₀ : Routes) (left₀ : List ℕ) w
     waiting = rw (take-length left₀) w;
     there = le_refl (length left₀);
     sum = refl;
-    kept = record { same_lengths = refl; same_stops = refl; count = refl; room = refl };
+    kept = keeps_same _;
     same = rw (take-length left₀) refl;
   }
 
@@ -136,7 +125,7 @@ module _ (p : Problem) (saved : Float) (lent₀ : Routes) (left₀ : List ℕ) w
               waiting = waiting_more p lent part part_waiting part_some lent₁ (take (m - 1) whole) w same left_is;
               there = omega (arith, length-append out (drop (m - 1 + 1) left), l, part_long);
               sum = omega (arith, w.sum, g.sum);
-              kept = keeps_on lent₀ lent lent₁ g.kept same;
+              kept = keeps_on g.kept same;
               same = step ∙ ap (λ (n : Option Float). move_on p saved (held_by n (plan_of lent₁)) (in_order p.demand (m - 1) (take (m - 1) whole))) q;
             }
 

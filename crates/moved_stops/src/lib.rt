@@ -16,7 +16,7 @@ use stop_moves::{Move, move_stop, take_largest};
 // Of the crates below, passed on to those above.
 pub use stop_moves::{
     Counts, Demand, Instance, LocalSearchNext, Pick, Problem, Reduction, Vehicle, is_finite,
-    next_pick, route_cost_gain_floor, routes, worth,
+    pick_after, route_cost_gain_floor, routes, worth,
 };
 
 // The first stop with the largest demand of those that are left goes to its place.
@@ -50,8 +50,7 @@ pub fn move_all(routes: &mut Routes, left: &mut [u16], saved: f64, given: &Insta
 {
     let mut added = 0.0;
     for m in (0..left.len()).rev() {
-        let sum = move_next(routes, &mut left[..m + 1], added, saved, given)?;
-        added = sum;
+        added = move_next(routes, &mut left[..m + 1], added, saved, given)?;
     }
     Some(added)
 }

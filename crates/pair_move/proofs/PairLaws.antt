@@ -8,7 +8,7 @@ use mathlib.Core.List.{List, [], ◌∷◌}
 use lib.ListN.{length, get_or}
 use Rattle.drawn_moves.specs.models.Problem.{Problem}
 use Rattle.drawn_moves.specs.plan.Plan.{route, total, non_empty}
-use Rattle.drawn_moves.specs.plan.Given.{plan_of, Becomes}
+use Rattle.drawn_moves.specs.plan.Given.{plan_of, Becomes, becomes_same}
 use Rattle.drawn_moves.specs.plan.declared.routes.Routes.{Routes}
 use Rattle.drawn_moves.specs.plan.Slices.{length_split, length_route}
 use Rattle.drawn_moves.specs.perturbation.Perturb.{both_non_empty, try_move, Drawn, move_between}
@@ -61,7 +61,7 @@ module _ (p : Problem) (old : Routes) (draws : Draws) (a b : ℕ) where
   second_none f e = none_moved (rw (some_there old a f, none_there old b e))
 
   still : moved ≡ record { routes = plan_of old; draws = draws.next + 2 } → Becomes old moved.routes (total old.lengths.now) old
-  still e = rw e (record { routes = refl; sum = refl; kept = record { same_lengths = refl; same_stops = refl; count = refl; room = refl } })
+  still e = rw e (becomes_same old)
 
   pub first_none_plan : get_or old.lengths.now a 0 ≡ 0 → Becomes old moved.routes (total old.lengths.now) old
   first_none_plan e = still (first_none e)

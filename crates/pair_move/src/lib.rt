@@ -12,7 +12,7 @@ use drawn_moves::routes::Routes;
 use drawn_moves::try_move;
 
 // Of the crates below, passed on to those above.
-pub use drawn_moves::{Demand, Draws, Instance, Vehicle, eject, other_than, routes};
+pub use drawn_moves::{Demand, Draws, Instance, Sought, Vehicle, eject, other_than, routes};
 
 // A move between routes a and b: where one of them is empty there is none. Returns the draws of the call so far.
 #[tactic(auto, using(crate::proofs::PairLaws::pair_laws))]
@@ -31,11 +31,8 @@ pub fn move_between(
         (total routes.old.lengths.now) routes.new }
     ensures draws { result ≡ (move_between (of_instance given.now) draws.entry.tape.now a b (drawn routes.old draws.entry)).draws }
 {
-    if routes.lengths[a] == 0 {
-        return draws.next + 2; // a is empty
-    }
-    if routes.lengths[b] == 0 {
-        return draws.next + 2; // b is empty
+    if routes.lengths[a] == 0 || routes.lengths[b] == 0 {
+        return draws.next + 2; // there is none
     }
     try_move(routes, work, draws, a, b, given);
     draws.next + 5

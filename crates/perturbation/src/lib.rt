@@ -5,5 +5,5 @@ pub mod draws;
 
 // Of the crates below, passed on to those above.
 pub use ejection_search::{
-    Demand, Fleet, Instance, Vehicle, checked, eject, feasible, within_capacity,
+    Demand, Fleet, Instance, Sought, Vehicle, checked, eject, feasible, within_capacity,
 };

@@ -6,6 +6,7 @@ ghost use Rattle.problem_checks.specs.laws.Searches.{every};
 ghost use Rattle.problem_checks.specs.models.Valid.{window_passes, penalty_passes, demand_passes, place_passes, window_ordered};
 
 use problem_checks::amounts::is_amount;
+use problem_checks::{is_penalised, is_windowed};
 
 // Of the crates below, passed on to those above.
 pub use problem_checks::amounts::{amounts_pass, break_passes, vehicle_passes};
@@ -20,7 +21,7 @@ fn window_passes(c: usize, places: &Customers) -> bool
     ensures { result ≡ window_passes places.now c }
 {
     let (flags, ready, due) = (places.flags, places.ready, places.due);
-    flags[c] % 2 != 1 || is_amount(ready[c]) && is_amount(due[c])
+    !is_windowed(flags[c]) || is_amount(ready[c]) && is_amount(due[c])
 }
 
 // Whether the penalty of place c, if it has one, is an amount.
@@ -29,7 +30,7 @@ fn penalty_passes(c: usize, places: &Customers) -> bool
     ensures { result ≡ penalty_passes places.now c }
 {
     let (flags, penalty) = (places.flags, places.penalty);
-    flags[c] / 2 % 2 != 1 || is_amount(penalty[c])
+    !is_penalised(flags[c]) || is_amount(penalty[c])
 }
 
 // Whether a demand is one of -1,000,000..1,000,000, its ends included.
@@ -67,7 +68,7 @@ fn window_ordered(c: usize, places: &Customers) -> bool
     ensures { result ≡ window_ordered places.now c }
 {
     let (flags, ready, due) = (places.flags, places.ready, places.due);
-    flags[c] % 2 != 1 || !(ready[c] > due[c])
+    !is_windowed(flags[c]) || !(ready[c] > due[c])
 }
 
 // Whether row 3 lets every place pass.

@@ -7,6 +7,7 @@ ghost use Rattle.models.specs.Customer.{Sized, window_at, penalty_at, customer_a
 // Of the crates below, passed on to those above.
 pub use models::customer::{Customer, TimeWindow};
 pub use models::customers::Customers;
+pub use models::flags::{is_penalised, is_windowed};
 pub use models::limits::RouteLimits;
 pub use models::matrix::DistanceMatrix;
 pub use models::network::Network;
@@ -14,13 +15,13 @@ pub use models::problem::Problem;
 pub use models::vehicle::{Vehicle, VehicleBreak};
 pub use models::{abs, infinity, is_finite, max, min, total_less};
 
-// The window of place `c`: bit 0 of its flags says whether it has one. A value whose flag is clear is not read.
+// The window of place `c`, if its flags say that it has one. A value whose flag is clear is not read.
 pub fn window_at(c: usize, places: &Customers) -> Option<TimeWindow>
     requires { (c < length places.now.ready) × (c < length places.now.due) × (c < length places.now.flags) }
     ensures { result ≡ window_at places.now.ready places.now.due places.now.flags c }
 {
     let (flags, ready, due) = (places.flags, places.ready, places.due);
-    if flags[c] % 2 == 1 {
+    if is_windowed(flags[c]) {
         Some(TimeWindow {
             ready: ready[c],
             due: due[c],
@@ -30,13 +31,13 @@ pub fn window_at(c: usize, places: &Customers) -> Option<TimeWindow>
     }
 }
 
-// The penalty of place `c`: bit 1 of its flags says whether it has one.
+// The penalty of place `c`, if its flags say that it has one.
 pub fn penalty_at(c: usize, places: &Customers) -> Option<f64>
     requires { (c < length places.now.penalty) × (c < length places.now.flags) }
     ensures { result ≡ penalty_at places.now.penalty places.now.flags c }
 {
     let (flags, penalty) = (places.flags, places.penalty);
-    if flags[c] / 2 % 2 == 1 {
+    if is_penalised(flags[c]) {
         Some(penalty[c])
     } else {
         None

@@ -1,47 +1,46 @@
 -- Where a route lies among the stops, and a stop put in or taken out, in the form that the proofs of the code want. Assumes nothing.
-use Rattle.std.proofs.Common.{◌≡◌, ℕ, ◌+◌, ◌-◌, ◌<◌, ◌≤◌, List, ◌++◌, length, get_or, take, drop, set, sym, refl, ap, ◌∙◌, zero-le, arith, w16, w64, Fits}
-use Rattle.cell_exchange.specs.laws.Edits.{insert_at, cut, cut_one}
+use Rattle.std.proofs.Common.{◌≡◌, ℕ, ◌+◌, ◌-◌, ◌<◌, ◌≤◌, List, ◌++◌, length, get_or, take, drop, set, sym, refl, ap, ◌∙◌, zero-le, arith, length-append, length-drop, length-take-le, w16, w64, Fits}
+use Rattle.cell_exchange.specs.laws.Edits.{insert_at, cut, cut_one, length_insert_at, length_cut}
 use Rattle.plan.specs.Plan.{Plan, Holds, Lent, HasPosition, HasStop, split, route, total, offset, put_in, take_out}
-use Rattle.plan.specs.Slices.{offset_more, offset_all, route_within, stop_split, position_within, position_route, stop_within, stop_route}
+use Rattle.cell_exchange.specs.Parts.{insert_at_in_use, cut_in_use}
+use Rattle.plan.specs.Slices.{offset_more, offset_within, offset_all, route_within, stop_split, position_within, position_route, stop_within, stop_route}
 use Rattle.plan.specs.Routes.{put_in_slices, take_out_slices}
 use Rattle.plan.specs.Given.{Keeps, Becomes}
 use Rattle.plan.specs.declared.routes.Routes.{Routes}
 
--- ---- `offset`: the sum of the first i lengths of the first k
+-- ---- `offset`: the sum of the first i of the lengths before route k
 
-pub record Summing (ls : List ℕ) (k sum i : ℕ) : Type 0 where
-  pub within : i ≤ k
-  pub there : k ≤ length ls
+pub record Summing (ls : List ℕ) (sum i : ℕ) : Type 0 where
+  pub within : i ≤ length ls
   pub few : total ls < 65536
   pub so_far : sum ≡ offset ls i
 
-module _ (ls : List ℕ) (k : ℕ) where
-  pub summing_none : k ≤ length ls → total ls < 65536 → Summing ls k 0 0
-  unfolding total
-  summing_none h f = record { within = zero-le; there = h; few = f; so_far = refl }
+pub summing_none : (ls : List ℕ) (k : ℕ) → total ls < 65536 → Summing (take k ls) 0 0
+unfolding total
+summing_none ls k f = record { within = zero-le; few = omega (arith, offset_within ls k); so_far = refl }
 
-  module _ (sum i : ℕ) (s : Summing ls k sum i) where
-    pub summing_more : i < k → Summing ls k (sum + get_or ls i 0) (i + 1)
-    summing_more h =
-        record {
-          within = omega arith;
-          there = s.there;
-          few = s.few;
-          so_far = ap (λ (n : ℕ). n + get_or ls i 0) s.so_far ∙ sym (offset_more ls i (omega (arith, s.there)));
-        }
+module _ (ls : List ℕ) (sum i : ℕ) (s : Summing ls sum i) where
+  pub summing_more : i < length ls → Summing ls (sum + get_or ls i 0) (i + 1)
+  summing_more h =
+      record {
+        within = omega arith;
+        few = s.few;
+        so_far = ap (λ (n : ℕ). n + get_or ls i 0) s.so_far ∙ sym (offset_more ls i h);
+      }
 
-    pub summing_cast : i < k → Fits w64 (get_or ls i 0)
-    summing_cast h = record { fits = omega (arith, s.few, route_within ls i (omega (arith, s.there))) }
+  pub summing_fits : i < length ls → Fits w64 (sum + get_or ls i 0)
+  summing_fits h = record { fits = omega (arith, s.few, s.so_far, route_within ls i h) }
 
-    pub summing_fits : i < k → Fits w64 (sum + get_or ls i 0)
-    summing_fits h = record { fits = omega (arith, s.few, s.so_far, route_within ls i (omega (arith, s.there))) }
+  pub summing_all : length ls ≤ i → sum ≡ total ls
+  summing_all h =
+      let e : i ≡ length ls = omega (arith, s.within) in
+      rw (e, offset_all ls) at s.so_far
 
-    pub summing_all : k ≤ i → sum ≡ offset ls k
-    summing_all h =
-        let e : i ≡ k = omega (arith, s.within) in
-        rw (← e) s.so_far
+pub ruleset summing_laws = (summing_none, summing_more, summing_fits, summing_all)
 
-pub ruleset summing_laws = (summing_none, summing_more, summing_cast, summing_fits, summing_all)
+-- what an edit leaves is lent still
+lent_still : (ls s : List ℕ) {plan : Plan} {n : ℕ} {ls₁ s₁ : List ℕ} → Lent ls s → Holds plan n ls₁ s₁ → length s₁ ≡ length s → n ≤ length s → Lent ls₁ s₁
+lent_still ls s l h e m = record { inside = omega (arith, h.sum); few = omega (arith, l.few) }
 
 -- ---- a position and a stop, where `at` is where their route begins and `used` how many stops there are
 
@@ -53,10 +52,23 @@ module _ (ls s : List ℕ) (k pos at : ℕ) (l : Lent ls s) (a : at ≡ offset l
     pub position_in_use : (used : ℕ) → used ≡ total ls → at + pos ≤ used
     position_in_use used u = omega (arith, route_within ls k (position_route ls s k pos g), position_within ls s l k pos g)
 
-    pub put_in_done : (used c : ℕ) {s₁ : List ℕ} → used ≡ total ls → s₁ ≡ insert_at (at + pos) c (take used s) ++ drop (used + 1) s
-        → Holds (put_in k pos c (split ls s)) (total ls + 1) (set ls k (get_or ls k 0 + 1)) s₁
-    put_in_done used c u e =
-        rw (e, u, a) (put_in_slices ls s k (position_route ls s k pos g) l.inside pos c (position_within ls s l k pos g))
+    pub position_lent : (used : ℕ) → used ≡ total ls → total ls < length s → at + pos < length (take (used + 1) s)
+    position_lent used u r = rw (length-take-le (used + 1) s (omega arith)) (omega (arith, position_in_use used u))
+
+    module _ (used c : ℕ) {t : List ℕ} (u : used ≡ total ls) (r : total ls < length s) (e : t ≡ take (length (take (used + 1) s)) (insert_at (at + pos) c (take (used + 1) s))) where
+      put_in_cells : t ≡ insert_at (at + pos) c (take used s)
+      put_in_cells = e ∙ insert_at_in_use s used (at + pos) c (position_in_use used u) (omega arith)
+
+      pub put_in_room : length (t ++ drop (used + 1) s) ≡ length s
+      put_in_room =
+          rw put_in_cells (simp (length-append, length-drop) (omega (arith, length_insert_at (at + pos) c (take used s) (rw (length-take-le used s (omega arith)) (position_in_use used u)), length-take-le used s (omega arith))))
+
+      pub put_in_done : Holds (put_in k pos c (split ls s)) (total ls + 1) (set ls k (get_or ls k 0 + 1)) (t ++ drop (used + 1) s)
+      put_in_done =
+          rw (put_in_cells, u, a) (put_in_slices ls s k (position_route ls s k pos g) l.inside pos c (position_within ls s l k pos g))
+
+      pub put_in_lent : Lent (set ls k (get_or ls k 0 + 1)) (t ++ drop (used + 1) s)
+      put_in_lent = lent_still ls s l put_in_done put_in_room (omega arith)
 
   module _ (g : HasStop (split ls s) k pos) where
     pub stop_fits : Fits w64 (at + pos)
@@ -71,10 +83,20 @@ module _ (ls s : List ℕ) (k pos at : ℕ) (l : Lent ls s) (a : at ≡ offset l
     pub stop_is : get_or s (at + pos) 0 ≡ get_or (route k (split ls s)) pos 0
     stop_is = rw a (stop_split ls s l.inside k pos (stop_within ls s l k pos g))
 
-    pub take_out_done : (used : ℕ) {s₁ : List ℕ} → used ≡ total ls → s₁ ≡ cut (at + pos) 1 (take used s) ++ drop (used - 1) s
-        → Holds (take_out k pos (split ls s)) (total ls - 1) (set ls k (get_or ls k 0 - 1)) s₁
-    take_out_done used u e =
-        rw (e, u, a, cut_one (offset ls k + pos) (take (total ls) s)) (take_out_slices ls s k (stop_route ls s k pos g) l.inside pos (stop_within ls s l k pos g))
+    module _ (used : ℕ) {t : List ℕ} (u : used ≡ total ls) (e : t ≡ cut (at + pos) 1 (take used s) ++ drop (length (take used s) - 1) (take used s)) where
+      take_out_cells : t ++ drop used s ≡ cut (at + pos) 1 (take used s) ++ drop (used - 1) s
+      take_out_cells = rw e (cut_in_use s used (at + pos) 1 (stop_in_use used u) (omega (arith, l.inside)))
+
+      pub take_out_room : length (t ++ drop used s) ≡ length s
+      take_out_room =
+          rw take_out_cells (simp (length-append, length-drop) (omega (arith, length_cut (at + pos) 1 (take used s) (rw (length-take-le used s (omega (arith, l.inside))) (stop_in_use used u)), length-take-le used s (omega (arith, l.inside)), stop_in_use used u, l.inside)))
+
+      pub take_out_done : Holds (take_out k pos (split ls s)) (total ls - 1) (set ls k (get_or ls k 0 - 1)) (t ++ drop used s)
+      take_out_done =
+          rw (take_out_cells, u, a, cut_one (offset ls k + pos) (take (total ls) s)) (take_out_slices ls s k (stop_route ls s k pos g) l.inside pos (stop_within ls s l k pos g))
+
+      pub take_out_lent : Lent (set ls k (get_or ls k 0 - 1)) (t ++ drop used s)
+      take_out_lent = lent_still ls s l take_out_done take_out_room (omega (arith, l.inside))
 
 module _ (ls s : List ℕ) (used : ℕ) (u : used ≡ total ls) where
   pub room_there : total ls < length s → used < length s
@@ -111,22 +133,11 @@ module _ (ls s : List ℕ) (k pos : ℕ) (l : Lent ls s) (g : HasPosition (split
   pub end_fits : (at : ℕ) → at ≡ offset ls k → Fits w64 (at + get_or ls k 0)
   end_fits at a = record { fits = omega (arith, l.inside, l.few, route_within ls k (position_route ls s k pos g)) }
 
-pub ruleset place_laws = (position_route, position_upto, position_fits, position_in_use, stop_route, stop_upto, stop_fits, stop_there, stop_in_use, room_there, used_there, route_in_use, length_fits, longer_fits, shorter_there)
+pub ruleset place_laws = (position_route, position_upto, position_fits, position_in_use, position_lent, stop_route, stop_upto, stop_fits, stop_there, stop_in_use, room_there, used_there, route_in_use, length_fits, longer_fits, shorter_there)
 
-pub ruleset edit_laws = (put_in_done, take_out_done, stop_is)
+pub ruleset edit_laws = (put_in_room, put_in_done, take_out_room, take_out_done, stop_is)
 
--- ---- what an edit leaves is lent still, and it stands in the same two slices
-
-lent_still : (ls s : List ℕ) {plan : Plan} {n : ℕ} {ls₁ s₁ : List ℕ} → Lent ls s → Holds plan n ls₁ s₁ → length s₁ ≡ length s → n ≤ length s → Lent ls₁ s₁
-lent_still ls s l h e m = record { inside = omega (arith, h.sum); few = omega (arith, l.few) }
-
-module _ (ls s : List ℕ) (k pos at : ℕ) (l : Lent ls s) (a : at ≡ offset ls k) (used : ℕ) (u : used ≡ total ls) {s₁ : List ℕ} (z : length s₁ ≡ length s) where
-  pub put_in_lent : (c : ℕ) → HasPosition (split ls s) k pos → total ls < length s → s₁ ≡ insert_at (at + pos) c (take used s) ++ drop (used + 1) s
-      → Lent (set ls k (get_or ls k 0 + 1)) s₁
-  put_in_lent c g r e = lent_still ls s l (put_in_done ls s k pos at l a g used c u e) z (omega arith)
-
-  pub take_out_lent : HasStop (split ls s) k pos → s₁ ≡ cut (at + pos) 1 (take used s) ++ drop (used - 1) s → Lent (set ls k (get_or ls k 0 - 1)) s₁
-  take_out_lent g e = lent_still ls s l (take_out_done ls s k pos at l a g used u e) z (omega (arith, l.inside))
+-- ---- an edit stands in the same two slices
 
 pub keeps : (old new : Routes) → new.lengths.ghost_name ≡ old.lengths.ghost_name → new.stops.ghost_name ≡ old.stops.ghost_name
     → length new.lengths.now ≡ length old.lengths.now → length new.stops.now ≡ length old.stops.now → Keeps old new

@@ -12,5 +12,8 @@ pub mod Dropped
 pub mod Saved
 -- the plan that lent routes are of
 pub mod Given
+-- a loop over the routes
+pub mod Left
 -- crates below, passed on to those above
 pub use Rattle.cell_exchange.specs.laws as laws
+pub use Rattle.cell_exchange.specs.Parts as Parts

@@ -1,6 +1,7 @@
 // A plan in two lent slices, in place of `Vec<Vec<usize>>`: the lengths of its routes, and their stops, route after route.
 #![tactic(auto)]
 
+pub mod each;
 pub mod routes;
 
 // Of the crates below, passed on to those above.

@@ -1,6 +1,8 @@
 // The routes of a plan, and a stop put in or taken out.
 ghost use Rattle.std.specs.Prelude.{◌≡◌, ◌+◌, ◌-◌, ◌<◌, ◌≤◌, length, slice_index};
-ghost use Rattle.plan.specs.Plan.{Lent, HasPosition, HasStop, route, total, offset, put_in, take_out};
+ghost use Rattle.plan.specs.Plan.{Lent, HasPosition, HasStop, route, split, total, offset, put_in, take_out};
+
+use crate::each::EachRoute;
 
 // The lengths of the routes and their stops, as they are lent.
 #[derive(Drop)]
@@ -23,8 +25,8 @@ pub fn offset(lengths: &[u16], k: usize) -> usize
     ensures { result ≡ offset lengths.now k }
 {
     let mut sum = 0;
-    for i in 0..k {
-        sum += lengths[i] as usize;
+    for length in &lengths[..k] {
+        sum += *length as usize;
     }
     sum
 }
@@ -48,6 +50,26 @@ impl<'a> Routes<'a> {
         offset(self.lengths, k)
     }
 
+    // The routes, one after the other.
+    pub fn each(&self) -> EachRoute
+        ensures { split result.lengths.now result.stops.now ≡ plan_of self.now }
+    {
+        EachRoute {
+            lengths: self.lengths,
+            stops: self.stops,
+        }
+    }
+
+    // The stops of route k.
+    pub fn route(&self, k: usize) -> &[u16]
+        requires { k < length self.now.lengths.now }
+        ensures { result.now ≡ route k (plan_of self.now) }
+    {
+        let at = self.begins(k);
+        let length = self.lengths[k] as usize;
+        &self.stops[at..at + length]
+    }
+
     // The stop c goes into route k at pos.
     pub fn put_in(&mut self, k: usize, pos: usize, c: u16)
         requires has_position { HasPosition (plan_of self.old) k pos }
@@ -56,7 +78,7 @@ impl<'a> Routes<'a> {
     {
         let used = self.used();
         let p = self.begins(k) + pos;
-        cell_exchange::insert_at(self.stops, used, p, c);
+        cell_exchange::insert_at(&mut self.stops[..used + 1], p, c);
         self.lengths[k] += 1;
     }
 
@@ -69,7 +91,7 @@ impl<'a> Routes<'a> {
         let used = self.used();
         let p = self.begins(k) + pos;
         let c = self.stops[p];
-        cell_exchange::cut(self.stops, used, p, 1);
+        cell_exchange::cut(&mut self.stops[..used], p, 1);
         self.lengths[k] -= 1;
         c
     }

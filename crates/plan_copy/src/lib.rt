@@ -14,9 +14,9 @@ pub fn save(work: &mut [u16], lengths: &[u16], stops: &[u16])
     requires { length lengths.now + length stops.now ≤ length work.old }
     ensures { work.new ≡ saved lengths.now stops.now work.old }
 {
-    let count = lengths.len();
-    route_removal::copy_part(work, 0, lengths, 0, count);
-    route_removal::copy_part(work, count, stops, 0, stops.len());
+    let (first, rest) = work.split_at_mut(lengths.len());
+    first.copy_from_slice(lengths);
+    rest[..stops.len()].copy_from_slice(stops);
 }
 
 // The same of routes. A field that is lent from behind `&mut Routes` would lose what the routes hold; here the whole is.
@@ -33,7 +33,7 @@ pub fn restore(lengths: &mut [u16], stops: &mut [u16], work: &[u16])
     ensures lengths { lengths.new ≡ take (length lengths.old) work.now }
     ensures stops { stops.new ≡ take (length stops.old) (drop (length lengths.old) work.now) }
 {
-    let count = lengths.len();
-    route_removal::copy_part(lengths, 0, work, 0, count);
-    route_removal::copy_part(stops, 0, work, count, stops.len());
+    let (first, rest) = work.split_at(lengths.len());
+    lengths.copy_from_slice(first);
+    stops.copy_from_slice(&rest[..stops.len()]);
 }

@@ -1,4 +1,4 @@
-// The cost of a plan: its routes' distances and fixed costs. It reads no travel times, so the matrix of each contract has none.
+// The cost of a plan: its routes' distances and fixed costs. It reads no travel times.
 #![tactic(auto)]
 
 ghost use Rattle.std.specs.Prelude.{◌≡◌, ◌*◌, ◌<◌, ◌≤◌, length};
@@ -7,6 +7,7 @@ ghost use Rattle.route_cost.specs.models.Problem.{of_roads, Stops};
 ghost use Rattle.route_cost.specs.plan.Plan.{Lent, split};
 ghost use Rattle.route_cost.specs.Route.{cost};
 
+use route_cost::each::EachRoute;
 use route_cost::route_distance;
 
 // Of the crates below, passed on to those above.
@@ -25,11 +26,8 @@ pub fn plan_cost(lengths: &[u16], stops: &[u16], vehicle: Vehicle, roads: &Dista
     let depot = vehicle.depot_id;
     let fixed = vehicle.fixed_cost_in_distance();
     let mut sum = 0.0;
-    let mut rest = stops;
-    for length in lengths {
-        let (route, more) = rest.split_at(*length as usize);
+    for route in (EachRoute { lengths, stops }) {
         sum = sum + (route_distance(route, depot, roads) + fixed);
-        rest = more;
     }
     sum
 }

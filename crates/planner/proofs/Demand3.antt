@@ -27,7 +27,8 @@ use Rattle.minimization.specs.Minimized.{Minimized, minimize_keeps}
 use Rattle.minimization.specs.Falls.{minimize_falls}
 use Rattle.elimination_moves.specs.Eliminate.{eliminate_routes}
 use Rattle.elimination_moves.specs.Eliminated.{Eliminated, eliminate_keeps}
-use Rattle.entry.specs.Table.{Work, refusal}
+use Rattle.entry.specs.declared.Work.{Work}
+use Rattle.entry.specs.Table.{refusal}
 use Rattle.entry.specs.Given.{entry, minimise_inputs, eliminate_inputs}
 use Rattle.entry.proofs.StopsLaws.{distinct_same, stops_distinct, distinct_stops}
 use Rattle.entry.proofs.EntryLaws.{entry_first, entered, enter}

@@ -17,7 +17,8 @@ use Rattle.minimization.specs.local_search.Rounds.{Result}
 use Rattle.minimization.specs.ejection_pool.Pool.{Allowance}
 use Rattle.minimization.specs.Minimize.{minimize_routes}
 use Rattle.elimination_moves.specs.Eliminate.{eliminate_routes}
-use Rattle.entry.specs.Table.{Work, refusal}
+use Rattle.entry.specs.declared.Work.{Work}
+use Rattle.entry.specs.Table.{refusal}
 use Rattle.entry.specs.Given.{problem_inputs, route_inputs, schedule_inputs, minimise_inputs, eliminate_inputs}
 
 -- "A refusal returns its number only"

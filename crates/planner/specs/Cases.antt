@@ -10,7 +10,7 @@ use Rattle.lateness_bound.specs.models.Problem.{Problem, problem}
 use Rattle.lateness_bound.specs.break_clock.RouteEval.{priced_distance}
 use Rattle.minimization.specs.plan.Plan.{Slices}
 use Rattle.minimization.specs.route_load.Feasible.{load, fits}
-use Rattle.entry.specs.Table.{Work}
+use Rattle.entry.specs.declared.Work.{Work}
 use Rattle.planner.specs.Calls.{Answer, refused, answered, Reply, public_route_eval}
 use Rattle.planner.specs.Run.{Call, minimise, eliminate, run}
 use Rattle.planner.specs.Opened.{opened}

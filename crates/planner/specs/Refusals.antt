@@ -7,7 +7,8 @@ use Rattle.lateness_bound.specs.floats.Binary64.{1e12}
 use Rattle.lateness_bound.specs.models.declared.vehicle.Vehicle.{Vehicle}
 use Rattle.lateness_bound.specs.models.Problem.{Problem, problem}
 use Rattle.minimization.specs.plan.Plan.{Slices}
-use Rattle.entry.specs.Table.{Work, refusal}
+use Rattle.entry.specs.declared.Work.{Work}
+use Rattle.entry.specs.Table.{refusal}
 use Rattle.entry.specs.Given.{minimise_inputs}
 use Rattle.planner.specs.Opened.{opened}
 

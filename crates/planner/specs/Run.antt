@@ -11,7 +11,7 @@ use Rattle.minimization.specs.route_load.Feasible.{Sound}
 use Rattle.minimization.specs.local_search.declared.rounds.Counts.{Counts}
 use Rattle.minimization.specs.local_search.declared.rounds.Reduction.{Reduction}
 use Rattle.minimization.specs.ejection_pool.Pool.{Allowance}
-use Rattle.entry.specs.Table.{Work}
+use Rattle.entry.specs.declared.Work.{Work}
 use Rattle.entry.specs.Given.{entry}
 use Rattle.planner.specs.Calls.{Answer, refused, answered, Reply, plan_in, public_minimise, public_eliminate}
 

@@ -4,7 +4,7 @@ use Rattle.minimization.specs.plan.Plan.{Slices}
 use Rattle.minimization.specs.local_search.declared.rounds.Reduction.{Reduction}
 use Rattle.entry.specs.refusal.declared.Refusal.{Refusal}
 use Rattle.entry.specs.refusal.Number.{number}
-use Rattle.entry.specs.Table.{Work}
+use Rattle.entry.specs.declared.Work.{Work}
 use Rattle.planner.specs.Calls.{Answer, refused, answered, Reply}
 
 abbrev pub told : {A : Type 0} → Result A Refusal → Answer A

@@ -3,7 +3,7 @@
 #![tactic(auto)]
 
 // Of the crates below, passed on to those above.
-pub use entry::{Refusal, instance};
+pub use entry::{Refusal, Work, instance};
 pub use lateness_bound::{
     Problem, Vehicle, bound, route_worth_effective_cost, route_worth_route_eval,
 };

@@ -15,7 +15,7 @@ use plan_cost::abs;
 
 // Of the crates below, passed on to those above.
 pub use ejection_pool::{
-    Allowance, Counts, LocalSearchNext, Pick, Reduction, constrained, next_pick, pool, rounds,
+    Allowance, Counts, LocalSearchNext, Pick, Reduction, constrained, pick_after, pool, rounds,
     routes,
 };
 pub use plan_cost::{

@@ -7,12 +7,12 @@ use mathlib.Core.List.{List, [], ◌∷◌}
 use Rattle.std.proofs.Common.{Result, Ok, Err}
 use lib.ListN.{length, drop, get_or}
 use Rattle.pool_turn.specs.models.Problem.{Problem}
-use Rattle.pool_turn.specs.plan.Given.{plan_of, Keeps}
+use Rattle.pool_turn.specs.plan.Given.{plan_of, Keeps, keeps_on}
 use Rattle.pool_turn.specs.plan.declared.routes.Routes.{Routes}
 use Rattle.pool_turn.specs.local_search.declared.rounds.Counts.{Counts}
 use Rattle.pool_turn.specs.insertion.Cheapest.{cheapest}
 use Rattle.pool_turn.specs.ejection_made.declared.pool.Pool.{Pool}
-use Rattle.pool_turn.specs.ejection_made.Made.{SameCells, keeps_on, pooled, same_on, stack, stack_pop}
+use Rattle.pool_turn.specs.ejection_made.Made.{SameCells, pooled, same_on, stack, stack_pop}
 use Rattle.pool_turn.specs.ejection_pool.Pool.{Allowance, State, more, failed, turn, after_cheapest, run_pool}
 use Rattle.pool_turn.specs.EjectionPoolTurns.{pool_more, pool_stop, emptied, at_the_limit, clocked, goes_on}
 use Rattle.pool_turn.specs.ejection_pool.Pooled.{Pooled}

@@ -7,6 +7,7 @@ pub mod sizes;
 // Of the crates below, passed on to those above.
 pub use models::customer::TimeWindow;
 pub use models::customers::Customers;
+pub use models::flags::{is_penalised, is_windowed};
 pub use models::limits::RouteLimits;
 pub use models::matrix::DistanceMatrix;
 pub use models::problem::Problem;

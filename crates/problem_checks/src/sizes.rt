@@ -31,7 +31,7 @@ fn matrix_passes(roads: &DistanceMatrix) -> bool
     ensures { result ≡ matrix_passes roads.now }
 {
     let cells = roads.size * roads.size;
-    roads.distances.len() == cells && (roads.times.len() == 0 || roads.times.len() == cells)
+    roads.distances.len() == cells && (roads.times.is_empty() || roads.times.len() == cells)
 }
 
 // Whether row 1 lets the problem pass.

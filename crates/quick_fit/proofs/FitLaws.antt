@@ -1,6 +1,6 @@
 -- Laws of specs/Quick on the test of one position, each from the facts that the code has where it needs it. Assumes nothing.
 use Rattle.std.specs.Prelude.{Option, Some, None}
-use Prim.Native.Nat.{ℕ, ◌-◌, ◌<◌, ◌≤◌}
+use Prim.Native.Nat.{ℕ, ◌-◌, ◌≤◌}
 use native.Mathlib.Omega.{arith}
 use mathlib.Core.Path.{◌≡◌, refl, sym, ap, ◌∙◌}
 use mathlib.Core.Bool.{Bool, true, false, cond}
@@ -8,42 +8,15 @@ use mathlib.Core.List.{List}
 use lib.ListN.{length, get_or, take}
 use lib.Dec.{eqb, ltb}
 use lib.Seq.{get_or-take}
-use lib.Ieee.{Float, nan, le}
-use borrow.Author.Tests.{lt-ltb, le-ltb, ltb-true, eqb-false}
-use Rattle.quick_test.specs.floats.Binary64.{◌⊕◌, ◌⊗◌, 0f, 1f, 1e-9, max, abs}
-use Rattle.quick_test.specs.laws.Loops.{cond_rule}
+use lib.Ieee.{Float, nan}
+use borrow.Author.Tests.{ltb-true, eqb-false}
+use Rattle.quick_test.specs.floats.Binary64.{◌⊕◌, 0f}
 use Rattle.quick_test.specs.models.Customer.{Customers}
-use Rattle.quick_test.specs.models.Problem.{DistanceMatrix, Stops}
+use Rattle.quick_test.specs.models.Problem.{DistanceMatrix}
 use Rattle.quick_test.specs.distance.Matrix.{travel_time}
 use Rattle.quick_test.specs.route_cost.Route.{prev_stop}
 use Rattle.quick_test.specs.Quick.{in_time, reaches_next, left_before, may_fit}
 use Rattle.quick_test.specs.Parts.{leave, next_in_time}
-
-pub in_time_is : (arrival bound size most : Float) → size ≡ abs bound → most ≡ max size 1f → le arrival (bound ⊕ 1e-9 ⊗ most) ≡ in_time arrival bound
-in_time_is arrival bound size most es em = rw (em, es)
-
--- ---- the stops on either side are places
-
-pub stop_there : (n : ℕ) (route : List ℕ) (pos next : ℕ) → Stops n route → pos < length route → next ≡ get_or route pos 0 → next < n
-stop_there n route pos next s h e = rw e (s.each pos h)
-
-pub before_there : (n depot : ℕ) (route : List ℕ) (pos prev : ℕ) → Stops n route → depot < n → pos ≤ length route → prev ≡ prev_stop depot route pos → prev < n
-before_there n depot route pos prev s d h e =
-    rw e (cond_rule (λ (x : ℕ). x < n) (eqb pos 0) (λ _. d) (λ f. s.each (pos - 1) (let g : pos ≡ 0 → ⊥ = eqb-false pos 0 f in omega arith)))
-
--- ---- the stop after: there is one; there is none
-
-module _ (m : DistanceMatrix) (route : List ℕ) (latest : List Float) (pos c : ℕ) (left : Float) where
-  pub next_is : (next : ℕ) (travel : Float) (v : Bool) → pos < length route → next ≡ get_or route pos 0 → travel ≡ travel_time m c next
-      → v ≡ in_time (left ⊕ travel) (get_or latest pos nan) → v ≡ next_in_time m route latest pos c left
-  unfolding next_in_time
-  next_is next travel v h en et ev = rw (lt-ltb pos (length route) h, ← en, ← et) ev
-
-  pub next_none : length route ≤ pos → true ≡ next_in_time m route latest pos c left
-  unfolding next_in_time
-  next_none h = rw (le-ltb pos (length route) h)
-
-pub ruleset next_laws = (next_is, next_none)
 
 -- ---- the whole test, on the first cells of the two
 

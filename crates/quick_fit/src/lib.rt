@@ -2,8 +2,8 @@
 // is left and how late the next may be reached (`latest_times`).
 #![tactic(auto)]
 
-ghost use Rattle.std.specs.Prelude.{◌≡◌, ◌≤◌, ◌<◌, length, get_or, take};
-ghost use Rattle.quick_test.specs.models.Problem.{Square, Stops};
+ghost use Rattle.std.specs.Prelude.{◌≡◌, ◌≤◌, ◌<◌, length, take};
+ghost use Rattle.quick_test.specs.models.Problem.{Stops};
 ghost use Rattle.quick_test.specs.Quick.{in_time, left_before, may_fit};
 ghost use Rattle.quick_test.specs.Parts.{leave, next_in_time};
 
@@ -13,7 +13,7 @@ use quick_test::{abs, max, prev_stop};
 pub use quick_test::{
     Counts, Demand, DistanceMatrix, Fleet, Insertion, Instance, LocalSearchNext, Network, Pick,
     Reduction, TimeWindow, Vehicle, checked, constrained, copy_part, customer_at, feasible,
-    has_room, infinity, insertion_cost, leave, min, next_pick, rounds, routes, travel_time,
+    has_room, infinity, insertion_cost, leave, min, pick_after, rounds, routes, travel_time,
     trial_ok, within_capacity,
 };
 
@@ -29,39 +29,27 @@ fn left_before(departures: &[f64], pos: usize) -> f64
     requires { pos ≤ length departures.now }
     ensures { result ≡ left_before departures.now pos }
 {
-    if pos == 0 {
-        return 0.0;
-    }
-    departures[pos - 1]
-}
-
-// The stop at `pos`.
-fn stop_at(route: &[u16], pos: usize) -> usize
-    requires { pos < length route.now }
-    ensures { result ≡ get_or route.now pos 0 }
-{
-    route[pos] as usize
+    departures[..pos].last().map_or(0.0, |time| *time)
 }
 
 // Whether the stop at `pos`, if there is one, is reached by its latest arrival from c, left at `left`.
+#[tactic(auto, unfolding(quick_test::specs::Parts::next_in_time))]
 fn next_in_time(
     left: f64,
     route: &[u16],
     latest: &[f64],
     pos: usize,
     c: usize,
-    roads: &DistanceMatrix,
+    net: &Network,
 ) -> bool
-    requires square { Square roads.now }
-    requires c_lt_n { (c < roads.now.size) × Stops roads.now.size route.now × (length route.now ≤ length latest.now) }
-    ensures { result ≡ next_in_time roads.now route.now latest.now pos c left }
+    requires { (c < net.now.roads.size) × Stops net.now.roads.size route.now × (length route.now ≤ length latest.now) }
+    ensures { result ≡ next_in_time net.now.roads route.now latest.now pos c left }
 {
-    if pos < route.len() {
-        let next = stop_at(route, pos);
-        let arrival = left + travel_time(roads, c, next);
-        return in_time(arrival, latest[pos]);
-    }
-    true
+    let Some(next) = route.get(pos) else {
+        return true;
+    };
+    let arrival = left + travel_time(&net.roads, c, *next as usize);
+    in_time(arrival, latest[pos])
 }
 
 // Whether c, put in at `pos` of a route that is left at `departures` and allows `latest` arrivals, may keep every window: its own,
@@ -85,5 +73,5 @@ pub fn may_fit(
     let Some(left) = leave(before, prev, c, net) else {
         return false;
     };
-    next_in_time(left, route, latest, pos, c, &net.roads)
+    next_in_time(left, route, latest, pos, c, net)
 }

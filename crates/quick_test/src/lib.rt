@@ -12,7 +12,7 @@ use insertion_cost::Customer;
 pub use insertion_cost::{
     Counts, Demand, DistanceMatrix, Fleet, Insertion, Instance, LocalSearchNext, Network, Pick,
     Reduction, TimeWindow, Vehicle, abs, checked, constrained, copy_part, customer_at, feasible,
-    has_room, infinity, insertion_cost, max, min, next_pick, prev_stop, rounds, routes,
+    has_room, infinity, insertion_cost, max, min, pick_after, prev_stop, rounds, routes,
     travel_time, trial_ok, within_capacity,
 };
 

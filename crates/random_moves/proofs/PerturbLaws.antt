@@ -8,7 +8,7 @@ use borrow.Author.Tests.{lt-ltb, le-ltb}
 use Rattle.pair_move.specs.laws.Loops.{loop, loop_none, loop_more, loop_end}
 use Rattle.pair_move.specs.models.Problem.{Problem}
 use Rattle.pair_move.specs.plan.Plan.{Plan, flat, total, occurs}
-use Rattle.pair_move.specs.plan.Given.{plan_of, Keeps, Becomes}
+use Rattle.pair_move.specs.plan.Given.{plan_of, Keeps, Becomes, keeps_same, becomes_same}
 use Rattle.pair_move.specs.plan.declared.routes.Routes.{Routes}
 use Rattle.pair_move.specs.plan.Slices.{length_split, holds_self, holds_number}
 use Rattle.pair_move.specs.local_search.Planned.{Planned, planned_as}
@@ -25,7 +25,7 @@ module _ (p : Problem) (old : Routes) (draws : Draws) (h : length old.lengths.no
   few_is = rw (length_split old.lengths.now old.stops.now, lt-ltb (length old.lengths.now) 2 h)
 
   pub few_plan : Becomes old (perturb p draws.tape.now (drawn old draws)).routes (total old.lengths.now) old
-  few_plan = rw few_is (record { routes = refl; sum = refl; kept = record { same_lengths = refl; same_stops = refl; count = refl; room = refl } })
+  few_plan = rw few_is (becomes_same old)
 
   pub few_draws : draws.next ≡ (perturb p draws.tape.now (drawn old draws)).draws
   few_draws = rw few_is
@@ -58,7 +58,7 @@ module _ (p : Problem) (n : ℕ) (old : Routes) (draws : Draws) where
         countable = k;
         counted = omega arith;
         sum = refl;
-        kept = record { same_lengths = refl; same_stops = refl; count = refl; room = refl };
+        kept = keeps_same old;
         so_far = loop_none (λ _. move p draws.tape.now) (drawn old draws);
       }
 

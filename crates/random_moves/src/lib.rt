@@ -16,7 +16,7 @@ use pair_move::routes::Routes;
 pub mod moves;
 
 // Of the crates below, passed on to those above.
-pub use pair_move::{Draws, eject};
+pub use pair_move::{Draws, Sought, eject};
 
 // 100 moves are tried; over fewer than two routes none. The work cells are free. Returns the draws of the call so far.
 #[tactic(auto, using(crate::proofs::PerturbLaws::perturb_laws))]

@@ -6,7 +6,6 @@ ghost use Rattle.place_checks.specs.models.Lent.{of_problem};
 ghost use Rattle.place_checks.specs.models.Problem.{of_distances};
 ghost use Rattle.place_checks.specs.models.Valid.{sizes_pass, values_pass};
 ghost use Rattle.stop_checks.specs.plan.Plan.{Slices};
-ghost use Rattle.stop_checks.specs.entry.Table.{Work};
 ghost use Rattle.stop_checks.specs.entry.Given.{row_of};
 ghost use Rattle.stop_checks.specs.entry.Rows.{problem_rows, route_rows, plan_rows, work_rows, minimise_rows};
 
@@ -19,7 +18,7 @@ pub use place_checks::{
     break_passes,
 };
 pub use stop_checks::{
-    Refusal, RouteEval, break_schedule_schedule, evaluation_check, route_cost_gain_floor,
+    Refusal, RouteEval, Work, break_schedule_schedule, evaluation_check, route_cost_gain_floor,
     route_cost_route_distance,
 };
 
@@ -75,19 +74,19 @@ pub fn plan_rows(n: usize, vehicle: Vehicle, lengths: &[u16], stops: &[u16]) -> 
     route_rows(n, vehicle, stops)
 }
 
-// Row 9, of `small` u16 and `wide` f64 work cells.
-pub fn work_rows(small: usize, wide: usize) -> Result<(), Refusal>
-    ensures { row_of result ≡ work_rows (record { u16_cells = small; f64_cells = wide }) }
+// Row 9.
+pub fn work_rows(work: Work) -> Result<(), Refusal>
+    ensures { row_of result ≡ work_rows work }
 {
-    if small < 8192 || wide < 2048 {
+    if work.u16_cells < 8192 || work.f64_cells < 2048 {
         return Err(Refusal::WorkCells);
     }
     Ok(())
 }
 
 // Rows 7 to 9.
-pub fn minimise_rows(tape: &[u64], limit: u64, small: usize, wide: usize) -> Result<(), Refusal>
-    ensures { row_of result ≡ minimise_rows tape.now limit (record { u16_cells = small; f64_cells = wide }) }
+pub fn minimise_rows(tape: &[u64], limit: u64, work: Work) -> Result<(), Refusal>
+    ensures { row_of result ≡ minimise_rows tape.now limit work }
 {
     if tape.is_empty() {
         return Err(Refusal::Tape);
@@ -95,5 +94,5 @@ pub fn minimise_rows(tape: &[u64], limit: u64, small: usize, wide: usize) -> Res
     if limit > 65535 {
         return Err(Refusal::StepLimit);
     }
-    work_rows(small, wide)
+    work_rows(work)
 }

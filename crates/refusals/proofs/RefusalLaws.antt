@@ -8,7 +8,8 @@ use Rattle.refusal_rows.specs.models.declared.vehicle.VehicleBreak.{VehicleBreak
 use Rattle.refusal_rows.specs.models.Problem.{Problem, of_distances}
 use Rattle.refusal_rows.specs.models.Valid.{rest_passes}
 use Rattle.refusal_rows.specs.plan.Plan.{Slices}
-use Rattle.refusal_rows.specs.entry.Table.{Work, stop_passes, stops_pass, refusal}
+use Rattle.refusal_rows.specs.entry.declared.Work.{Work}
+use Rattle.refusal_rows.specs.entry.Table.{stop_passes, stops_pass, refusal}
 use Rattle.refusal_rows.specs.entry.Given.{problem_inputs, route_inputs, schedule_inputs, eliminate_inputs, minimise_inputs}
 use Rattle.refusal_rows.specs.entry.Rows.{problem_rows, route_rows, plan_rows, work_rows, minimise_rows, or_else, problem_refusal, route_refusal, schedule_refusal, eliminate_refusal, minimise_refusal}
 

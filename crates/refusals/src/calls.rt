@@ -2,12 +2,12 @@
 ghost use Rattle.std.specs.Prelude.{◌≡◌};
 ghost use Rattle.refusal_rows.specs.models.Lent.{of_problem};
 ghost use Rattle.refusal_rows.specs.plan.Plan.{Slices};
-ghost use Rattle.refusal_rows.specs.entry.Table.{Work, refusal};
+ghost use Rattle.refusal_rows.specs.entry.Table.{refusal};
 ghost use Rattle.refusal_rows.specs.entry.Given.{row_of, problem_inputs, route_inputs, schedule_inputs, eliminate_inputs, minimise_inputs};
 
 use refusal_rows::{
-    Problem, Refusal, Vehicle, VehicleBreak, break_passes, minimise_rows, plan_rows, problem_rows,
-    route_rows, work_rows,
+    Problem, Refusal, Vehicle, VehicleBreak, Work, break_passes, minimise_rows, plan_rows,
+    problem_rows, route_rows, work_rows,
 };
 
 // A call that is given the problem alone: rows 1 to 4.
@@ -34,21 +34,19 @@ pub fn schedule_refusal(route: &[u16], rest: VehicleBreak, problem: &Problem) ->
     route_rows(problem.roads.size(), problem.vehicle, route)
 }
 
-// eliminate: rows 1 to 6 and 9. `small` and `wide` are the numbers of u16 and f64 work cells.
+// eliminate: rows 1 to 6 and 9.
 pub fn eliminate_refusal(
     lengths: &[u16],
     stops: &[u16],
     problem: &Problem,
-    small: usize,
-    wide: usize,
+    work: Work,
 ) -> Result<(), Refusal>
     ensures { row_of result ≡ refusal
-        (eliminate_inputs (of_problem problem.now) (record { lengths = lengths.entry.now; stops = stops.now })
-        (record { u16_cells = small; f64_cells = wide })) }
+        (eliminate_inputs (of_problem problem.now) (record { lengths = lengths.entry.now; stops = stops.now }) work) }
 {
     problem_rows(true, problem)?;
     plan_rows(problem.roads.size(), problem.vehicle, lengths, stops)?;
-    work_rows(small, wide)
+    work_rows(work)
 }
 
 // minimise: rows 1 to 9.
@@ -58,14 +56,12 @@ pub fn minimise_refusal(
     problem: &Problem,
     tape: &[u64],
     limit: u64,
-    small: usize,
-    wide: usize,
+    work: Work,
 ) -> Result<(), Refusal>
     ensures { row_of result ≡ refusal
-        (minimise_inputs (of_problem problem.now) (record { lengths = lengths.entry.now; stops = stops.now }) tape.now limit
-        (record { u16_cells = small; f64_cells = wide })) }
+        (minimise_inputs (of_problem problem.now) (record { lengths = lengths.entry.now; stops = stops.now }) tape.now limit work) }
 {
     problem_rows(true, problem)?;
     plan_rows(problem.roads.size(), problem.vehicle, lengths, stops)?;
-    minimise_rows(tape, limit, small, wide)
+    minimise_rows(tape, limit, work)
 }

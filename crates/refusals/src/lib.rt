@@ -6,6 +6,6 @@ pub mod calls;
 // Of the crates below, passed on to those above.
 pub use refusal_rows::{
     Customers, DistanceMatrix, Problem, Refusal, RouteEval, RouteLimits, TimeWindow, Vehicle,
-    VehicleBreak, break_schedule_schedule, evaluation_check, route_cost_gain_floor,
+    VehicleBreak, Work, break_schedule_schedule, evaluation_check, route_cost_gain_floor,
     route_cost_route_distance,
 };

@@ -1,5 +1,5 @@
 -- Laws of the place for a stop on the positions of one route, each from the facts that the code has where it needs it. Assumes nothing.
-use Prim.Native.Nat.{ℕ, suc, ◌+◌, ◌≤◌, ◌<◌}
+use Prim.Native.Nat.{ℕ, suc, ◌+◌, ◌≤◌}
 use native.Mathlib.Omega.{arith}
 use mathlib.Core.Path.{◌≡◌, refl, ◌∙◌}
 use mathlib.Core.Bool.{Bool, true, false, cond, not, ◌&&◌, ◌||◌}
@@ -7,11 +7,8 @@ use mathlib.Core.List.{List, []}
 use Rattle.std.proofs.Common.{Option, Some}
 use lib.ListN.{length}
 use lib.Ieee.{Float}
-use mir.Syntax.{w64}
-use mir.Val.{Fits}
-use borrow.Author.Rules.{rules}
 use Rattle.reinsertion_candidates.specs.floats.Binary64.{is_finite}
-use Rattle.reinsertion_candidates.specs.laws.Loops.{loop, loop_none, loop_more, loop_end, loop_same}
+use Rattle.reinsertion_candidates.specs.laws.Loops.{loop, loop_none, loop_more, loop_same}
 use Rattle.reinsertion_candidates.specs.models.Problem.{Problem, of_demand, problem_of}
 use Rattle.reinsertion_candidates.specs.route_cost.declared.Insertion.{Insertion}
 use Rattle.reinsertion_candidates.specs.route_load.Feasible.{has_room}
@@ -51,21 +48,18 @@ module _ (p : Problem) (m : Move) (k : ℕ) (r : List ℕ) (pos : ℕ) (best : O
 
 -- ---- the loop: what the positions before pos leave of the best so far
 
-pub record Looking (p : Problem) (m : Move) (k : ℕ) (r : List ℕ) (before : Float) (first found : Option Insertion) (pos : ℕ) : Type 0 where
+pub record Looking (p : Problem) (m : Move) (k : ℕ) (r : List ℕ) (before : Option Float) (first found : Option Insertion) (pos : ℕ) : Type 0 where
   pub looked : Looked p m r
   pub told : before ≡ current p r
   pub within : pos ≤ suc (length r)
   pub same : found ≡ loop pos (look_at p m.c m.added m.saved k r) first
 
-module _ (p : Problem) (m : Move) (k : ℕ) (r : List ℕ) (before : Float) (first : Option Insertion) where
+module _ (p : Problem) (m : Move) (k : ℕ) (r : List ℕ) (before : Option Float) (first : Option Insertion) where
   pub looking_start : Looked p m r → before ≡ current p r → Looking p m k r before first first 0
   looking_start g e =
       record { looked = g; told = e; within = omega arith; same = loop_none (look_at p m.c m.added m.saved k r) first }
 
   module _ (found : Option Insertion) (pos : ℕ) (g : Looking p m k r before first found pos) where
-    pub looking_next : pos ≤ length r → Fits w64 (pos + 1)
-    looking_next h = record { fits = omega (arith, g.looked.few) }
-
     pub looking_more : (next : Option Insertion) → pos ≤ length r → next ≡ look_at p m.c m.added m.saved k r pos found
         → Looking p m k r before first next (pos + 1)
     looking_more next h e =
@@ -75,12 +69,6 @@ module _ (p : Problem) (m : Move) (k : ℕ) (r : List ℕ) (before : Float) (fir
           within = omega arith;
           same = loop_more (look_at p m.c m.added m.saved k r) first pos found next g.same e;
         }
-
-    pub looking_end : length r < pos → found ≡ loop (suc (length r)) (look_at p m.c m.added m.saved k r) first
-    looking_end h =
-        loop_end (look_at p m.c m.added m.saved k r) first pos (suc (length r)) found g.same (omega (arith, g.within))
-
-pub ruleset looking_laws = (rules, looking_start, looking_next, looking_end)
 
 -- ---- a route: it has no room; its positions are looked at
 

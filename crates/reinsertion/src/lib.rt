@@ -20,7 +20,7 @@ use reinsertion_candidates::{
 // Of the crates below, passed on to those above.
 pub use reinsertion_candidates::{
     Counts, Demand, Instance, LocalSearchNext, Move, Pick, Problem, Reduction, Vehicle, is_finite,
-    next_pick, route_cost_gain_floor, routes, worth,
+    pick_after, route_cost_gain_floor, routes, worth,
 };
 
 // One position of route k, which has room for the stop: the better of what it gives and the best so far.
@@ -28,7 +28,7 @@ fn look_at(
     route: &[u16],
     pos: usize,
     k: usize,
-    before: f64,
+    before: Option<f64>,
     best: Option<Insertion>,
     stop: Move,
     fleet: &Fleet,
@@ -39,9 +39,9 @@ fn look_at(
     let cost = insertion_worth(route, pos, stop.c, before, fleet);
     if leads(cost, fleet.soft, best) && settles(route, pos, cost, stop, fleet) {
         Some(Insertion {
-            cost: cost,
+            cost,
             route: k,
-            pos: pos,
+            pos,
         })
     } else {
         best
@@ -52,7 +52,7 @@ fn look_at(
 fn look_along(
     route: &[u16],
     k: usize,
-    before: f64,
+    before: Option<f64>,
     best: Option<Insertion>,
     stop: Move,
     fleet: &Fleet,
@@ -92,13 +92,9 @@ fn look_over(routes: &Routes, stop: Move, given: &Instance) -> Option<Insertion>
     requires room { Room given.now.fleet.net.roads.size routes.now }
     ensures { result ≡ look_over (of_instance given.now) stop.c stop.added stop.saved (plan_of routes.now) }
 {
-    let lengths = &*routes.lengths;
-    let mut rest = &*routes.stops;
     let mut best = None;
-    for (k, length) in lengths.iter().enumerate() {
-        let (route, more) = rest.split_at(*length as usize);
+    for (k, route) in routes.each().enumerate() {
         best = look_through(route, k, best, stop, given);
-        rest = more;
     }
     best
 }

@@ -13,7 +13,7 @@ use reinsertion_worth::{total_less, trial_ok};
 // Of the crates below, passed on to those above.
 pub use reinsertion_worth::{
     Counts, Demand, Fleet, Insertion, Instance, LocalSearchNext, Pick, Problem, Reduction, Vehicle,
-    current, cut, has_room, insertion_worth, is_finite, next_pick, route_cost_gain_floor, routes,
+    current, cut, has_room, insertion_worth, is_finite, pick_after, route_cost_gain_floor, routes,
     worth,
 };
 

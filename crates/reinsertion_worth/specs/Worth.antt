@@ -1,6 +1,6 @@
 -- What a route and an insertion are worth (route_elimination.rs, the closure `worth`, and `cost` in the body of `for c in moving`). Assumes nothing.
-use Rattle.std.specs.Prelude.{ℕ, List, Bool, cond, Float}
-use Rattle.route_worth.specs.floats.Binary64.{◌⊖◌, 0f}
+use Rattle.std.specs.Prelude.{ℕ, List, Bool, cond, Float, Option, Some, None}
+use Rattle.route_worth.specs.floats.Binary64.{◌⊖◌}
 use Rattle.route_worth.specs.laws.Edits.{insert_at}
 use Rattle.route_worth.specs.models.RouteLimits.{limits_of}
 use Rattle.route_worth.specs.models.Problem.{Problem, depot}
@@ -20,6 +20,6 @@ worth p r = cond (soft p) (effective_cost p.places p.roads (depot p) (limits_of 
 unfoldable pub insertion_worth : Problem → List ℕ → ℕ → ℕ → Float
 insertion_worth p r pos c = cond (soft p) (worth p (insert_at pos c r) ⊖ worth p r) (insertion_cost p.roads (depot p) r pos c)
 
--- `current`: what the route is worth where a window is soft, and else 0, which is not read
-abbrev pub current : Problem → List ℕ → Float
-current p r = cond (soft p) (worth p r) 0f
+-- `current`: what the route is worth where a window is soft; the lateness is not weighed else
+abbrev pub current : Problem → List ℕ → Option Float
+current p r = cond (soft p) (Some (worth p r)) None

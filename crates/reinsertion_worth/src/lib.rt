@@ -2,7 +2,7 @@
 // lateness (local_search/route_elimination.rs, `worth`).
 #![tactic(auto)]
 
-ghost use Rattle.std.specs.Prelude.{◌≡◌, [], ◌+◌, ◌<◌, ◌≤◌, length, take};
+ghost use Rattle.std.specs.Prelude.{◌≡◌, [], ◌<◌, ◌≤◌, length};
 ghost use Rattle.route_worth.specs.laws.Edits.{insert_at};
 ghost use Rattle.route_worth.specs.models.RouteLimits.{limits_of};
 ghost use Rattle.route_worth.specs.models.Problem.{Stops};
@@ -10,14 +10,12 @@ ghost use Rattle.route_worth.specs.evaluation.Eval.{effective_cost};
 ghost use Rattle.reinsertion_worth.specs.Worth.{worth, insertion_worth, current};
 ghost use Rattle.route_worth.specs.evaluation.Given.{of_fleet};
 
-use insertion_cost::{
-    copy_part, insert_at, insertion_cost, route_cost_route_distance as route_distance,
-};
+use insertion_cost::{insert_at, insertion_cost, route_cost_route_distance as route_distance};
 use route_worth::{RouteLimits, effective_cost};
 
 // Of the crates below, passed on to those above.
 pub use insertion_cost::{
-    Counts, Insertion, LocalSearchNext, Pick, Reduction, cut, has_room, next_pick,
+    Counts, Insertion, LocalSearchNext, Pick, Reduction, cut, has_room, pick_after,
     route_cost_gain_floor, routes, trial_ok,
 };
 pub use route_worth::{Demand, Fleet, Instance, Problem, Vehicle, is_finite, total_less};
@@ -38,25 +36,27 @@ pub fn worth(route: &[u16], fleet: &Fleet) -> f64
     route_distance(route, fleet.vehicle.depot_id, &fleet.net.roads)
 }
 
-// What a route is worth where a window is soft, and else 0.0, which is not read.
-pub fn current(route: &[u16], fleet: &Fleet) -> f64
+// What a route is worth where a window is soft: else no lateness is weighed.
+pub fn current(route: &[u16], fleet: &Fleet) -> Option<f64>
     requires { Stops fleet.now.net.roads.size route.now }
     ensures { result ≡ current (of_fleet fleet.now) route.now }
 {
     if fleet.soft {
-        return worth(route, fleet);
+        Some(worth(route, fleet))
+    } else {
+        None
     }
-    0.0
 }
 
-// The first cells become the route with c put in at pos.
-fn build_trial(trial: &mut [u16], route: &[u16], pos: usize, c: usize)
+// The route with c put in at pos goes to the first cells. Returns these cells.
+fn build_trial<'a>(trial: &'a mut [u16], route: &[u16], pos: usize, c: usize) -> &'a [u16]
     requires { (pos ≤ length route.now) × (length route.now < length trial.old) × (c < 65536) }
-    ensures { take (length route.now + 1) trial.new ≡ insert_at pos c route.now }
+    ensures { result.now ≡ insert_at pos c route.now }
 {
     let end = route.len();
-    copy_part(trial, 0, route, 0, end);
-    insert_at(trial, end, pos, c as u16);
+    trial[..end].copy_from_slice(route);
+    insert_at(&mut trial[..end + 1], pos, c as u16);
+    &trial[..end + 1]
 }
 
 // What the route with c put in at pos costs, its lateness weighed.
@@ -66,9 +66,8 @@ fn trial_cost(route: &[u16], pos: usize, c: usize, fleet: &Fleet) -> f64
         (insert_at pos c route.now) }
 {
     let mut trial = [0u16; 256];
-    build_trial(&mut trial, route, pos, c);
     effective_cost(
-        &trial[0..route.len() + 1],
+        build_trial(&mut trial, route, pos, c),
         fleet.vehicle.depot_id,
         RouteLimits::of(fleet.vehicle),
         &fleet.net,
@@ -76,7 +75,13 @@ fn trial_cost(route: &[u16], pos: usize, c: usize, fleet: &Fleet) -> f64
 }
 
 // What c at position pos of a route costs: the change in worth. `before` is what `current` says of the route.
-pub fn insertion_worth(route: &[u16], pos: usize, c: usize, before: f64, fleet: &Fleet) -> f64
+pub fn insertion_worth(
+    route: &[u16],
+    pos: usize,
+    c: usize,
+    before: Option<f64>,
+    fleet: &Fleet,
+) -> f64
     requires place { c < fleet.now.net.roads.size }
     requires position { pos ≤ length route.now }
     requires stops { Stops fleet.now.net.roads.size route.now }
@@ -84,9 +89,8 @@ pub fn insertion_worth(route: &[u16], pos: usize, c: usize, before: f64, fleet: 
     requires told { before ≡ current (of_fleet fleet.now) route.now }
     ensures { result ≡ insertion_worth (of_fleet fleet.now) route.now pos c }
 {
-    if fleet.soft {
-        let with = trial_cost(route, pos, c, fleet);
-        return with - before;
+    match before {
+        Some(own) => trial_cost(route, pos, c, fleet) - own,
+        None => insertion_cost(route, pos, c, fleet.vehicle.depot_id, &fleet.net.roads),
     }
-    insertion_cost(route, pos, c, fleet.vehicle.depot_id, &fleet.net.roads)
 }

@@ -5,8 +5,14 @@
 ghost use Rattle.replayed_calls.specs.tally.Tally.{Counted};
 
 use replayed_calls::{
-    Customers, DistanceMatrix, Numbers, Problem, Tally, Vehicle, VehicleBreak, call_at,
+    Customers, DistanceMatrix, Numbers, PLAN, Problem, Tally, Vehicle, VehicleBreak, call_at,
 };
+
+// Room for what is said of each place.
+const PLACES: usize = 16;
+
+// Room for a matrix.
+const MATRIX: usize = 160;
 
 fn limit_at(numbers: &mut Numbers) -> Option<Option<f64>> {
     let given = numbers.read::<bool>()?;
@@ -57,9 +63,9 @@ fn calls_at(
 fn plan_at(numbers: &mut Numbers, tally: &mut Tally, problem: &Problem) -> Option<()>
     ensures { Counted tally.old tally.new }
 {
-    let mut lengths_room = [0u16; 264];
+    let mut lengths_room = [0u16; PLAN];
     let lengths = numbers.fill(&mut lengths_room)?;
-    let mut stops_room = [0u16; 264];
+    let mut stops_room = [0u16; PLAN];
     let stops = numbers.fill(&mut stops_room)?;
     let count = numbers.next()?;
     calls_at(numbers, count, lengths, stops, tally, problem)
@@ -80,9 +86,9 @@ fn matrices_at(
 ) -> Option<()>
     ensures { Counted tally.old tally.new }
 {
-    let mut distances_room = [0.0; 160];
+    let mut distances_room = [0.0; MATRIX];
     let distances = numbers.fill(&mut distances_room)?;
-    let mut times_room = [0.0; 160];
+    let mut times_room = [0.0; MATRIX];
     let times = numbers.fill(&mut times_room)?;
     let places = Customers {
         service,
@@ -117,11 +123,11 @@ fn windows_at(
 ) -> Option<()>
     ensures { Counted tally.old tally.new }
 {
-    let mut ready_room = [0.0; 16];
+    let mut ready_room = [0.0; PLACES];
     let ready = numbers.fill(&mut ready_room)?;
-    let mut due_room = [0.0; 16];
+    let mut due_room = [0.0; PLACES];
     let due = numbers.fill(&mut due_room)?;
-    let mut penalty_room = [0.0; 16];
+    let mut penalty_room = [0.0; PLACES];
     let penalty = numbers.fill(&mut penalty_room)?;
     matrices_at(
         numbers, tally, n, vehicle, demand, flags, service, ready, due, penalty,
@@ -134,11 +140,11 @@ pub fn case_at(numbers: &mut Numbers, tally: &mut Tally) -> Option<()>
 {
     let n = numbers.read::<usize>()?;
     let vehicle = vehicle_at(numbers)?;
-    let mut demand_room = [0i32; 16];
+    let mut demand_room = [0i32; PLACES];
     let demand = numbers.fill(&mut demand_room)?;
-    let mut flags_room = [0u8; 16];
+    let mut flags_room = [0u8; PLACES];
     let flags = numbers.fill(&mut flags_room)?;
-    let mut service_room = [0.0; 16];
+    let mut service_room = [0.0; PLACES];
     let service = numbers.fill(&mut service_room)?;
     windows_at(numbers, tally, n, vehicle, demand, flags, service)
 }

@@ -2,14 +2,16 @@
 // ones, bit for bit. The input is the number of cases and the cases (cases.rt), numbers in decimal. README.md says how it is made.
 #![tactic(auto)]
 
-ghost use Rattle.std.specs.Prelude.{◌≡◌, length};
-
 mod cases;
 
 use cases::case_at;
 use replayed_calls::{
     Customers, DistanceMatrix, Numbers, Problem, Tally, print_fault, print_misfit, print_too_long,
 };
+use room::zeros;
+
+// Room for the input: half a megabyte.
+const INPUT_ROOM: usize = 524288;
 
 // Replays the cases of a text.
 fn replay(text: &[u8]) {
@@ -32,17 +34,10 @@ fn replay(text: &[u8]) {
     }
 }
 
-// Room for the input: half a megabyte.
-fn room() -> [u8; 524288]
-    ensures { 524288 ≡ length result }
-{
-    [0; 524288]
-}
-
 fn main() {
-    let mut text = room();
+    let mut text: [u8; INPUT_ROOM] = zeros();
     let n = io::read_full(0, &mut text);
-    if n == 524288 {
+    if n == INPUT_ROOM {
         print_too_long();
         return;
     }

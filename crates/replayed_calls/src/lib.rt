@@ -4,16 +4,32 @@
 // A slice is its count and its cells, an answer is seven numbers. (eliminate has limit and clock 0 and no tape, a question without a route an empty one.)
 #![tactic(auto)]
 
-ghost use Rattle.std.specs.Prelude.{◌≡◌, length, MatchOption};
+ghost use Rattle.std.specs.Prelude.{◌≡◌, MatchOption};
 ghost use Rattle.tally.specs.Tally.{Noted};
 
-use change_verdict::{Allowance, change_agrees};
-use question_verdict::{Kind, Stored, question_agrees};
+use change_verdict::{Allowance, Change, change_agrees, change_asked};
+use question_verdict::{Kind, Question, Stored, question_agrees};
+use room::zeros;
 
 // Of the crates below, passed on to those above.
 pub use question_verdict::{Customers, DistanceMatrix, Problem, Vehicle, VehicleBreak};
 pub use stored::Numbers;
 pub use tally::{Tally, print_fault, print_misfit, print_too_long};
+
+// Room for the stops of a question's route.
+const ROUTE: usize = 32;
+
+// Room for each of a plan's two slices.
+pub const PLAN: usize = 264;
+
+// Room for a tape.
+const TAPE: usize = 64;
+
+// Room for the u16 work cells.
+const WORK: usize = 8704;
+
+// Room for the f64 work cells.
+const FLOAT_WORK: usize = 2560;
 
 // The next answer.
 fn answer_at(numbers: &mut Numbers) -> Option<Stored> {
@@ -28,47 +44,35 @@ fn answer_at(numbers: &mut Numbers) -> Option<Stored> {
     })
 }
 
-// A question. It is counted, or nothing where it is not of the form.
-fn question_at(
-    numbers: &mut Numbers,
-    kind: Kind,
-    tally: &mut Tally,
-    problem: &Problem,
-) -> Option<()>
-    ensures { MatchOption result (tally.new ≡ tally.old) (λ _. Noted tally.old tally.new) }
-{
-    let mut room = [0u16; 32];
-    let route = numbers.fill(&mut room)?;
+// A question: whether its answer is the stored one, or nothing where it is not of the form.
+fn question_at(numbers: &mut Numbers, kind: Kind, problem: &Problem) -> Option<bool> {
+    let mut route_room = [0u16; ROUTE];
+    let route = numbers.fill(&mut route_room)?;
     let x = numbers.read()?;
     let y = numbers.read()?;
     let z = numbers.read()?;
     let answer = answer_at(numbers)?;
-    let agrees = question_agrees(answer, kind, route, x, y, z, problem);
-    tally.note(kind, agrees);
-    Some(())
+    let question = Question::of(kind, route, x, y, z)?;
+    Some(question_agrees(answer, question, problem))
 }
 
-// minimise or eliminate, on a plan and with work cells. It is counted, or nothing where it is not of the form.
+// minimise or eliminate, on a plan and with work cells: whether its answer and the plan after it are the stored ones, or nothing where it is not of the form.
 fn change_at(
     numbers: &mut Numbers,
-    kind: Kind,
+    change: Change,
     lengths: &mut [u16],
     stops: &mut [u16],
     work: &mut [u16],
     cells: &mut [f64],
-    allowance: Allowance,
-    tally: &mut Tally,
     problem: &Problem,
-) -> Option<()>
-    ensures { MatchOption result (tally.new ≡ tally.old) (λ _. Noted tally.old tally.new) }
-{
+) -> Option<bool> {
     let answer = answer_at(numbers)?;
-    let mut lengths_room = [0u16; 264];
+    let mut lengths_room = [0u16; PLAN];
     let lengths_after = numbers.fill(&mut lengths_room)?;
-    let mut stops_room = [0u16; 264];
+    let mut stops_room = [0u16; PLAN];
     let stops_after = numbers.fill(&mut stops_room)?;
     let agrees = change_agrees(
-        kind,
+        change,
         lengths,
         stops,
         answer,
@@ -76,25 +80,9 @@ fn change_at(
         stops_after,
         work,
         cells,
-        allowance,
         problem,
     );
-    tally.note(kind, agrees);
-    Some(())
-}
-
-// Room for the u16 work cells.
-fn u16_cells() -> [u16; 8704]
-    ensures { 8704 ≡ length result }
-{
-    [0; 8704]
-}
-
-// Room for the f64 work cells.
-fn f64_cells() -> [f64; 2560]
-    ensures { 2560 ≡ length result }
-{
-    [0.0; 2560]
+    Some(agrees)
 }
 
 // minimise or eliminate with the work cells that it is given.
@@ -103,28 +91,24 @@ fn change_with_cells(
     kind: Kind,
     lengths: &mut [u16],
     stops: &mut [u16],
-    tally: &mut Tally,
     problem: &Problem,
-) -> Option<()>
-    ensures { MatchOption result (tally.new ≡ tally.old) (λ _. Noted tally.old tally.new) }
-{
+) -> Option<bool> {
     let limit = numbers.next()?;
     let clock = numbers.next()?;
-    let small = numbers.at_most(8704)? as usize;
-    let wide = numbers.at_most(2560)? as usize;
-    let mut tape_room = [0u64; 64];
+    let small = numbers.at_most(WORK as u64)? as usize;
+    let wide = numbers.at_most(FLOAT_WORK as u64)? as usize;
+    let mut tape_room = [0u64; TAPE];
     let tape = numbers.fill(&mut tape_room)?;
-    let mut work = u16_cells();
-    let mut cells = f64_cells();
+    let change = change_asked(kind, Allowance { tape, limit, clock })?;
+    let mut work: [u16; WORK] = zeros();
+    let mut cells: [f64; FLOAT_WORK] = zeros();
     change_at(
         numbers,
-        kind,
+        change,
         lengths,
         stops,
         &mut work[..small],
         &mut cells[..wide],
-        Allowance { tape, limit, clock },
-        tally,
         problem,
     )
 }
@@ -140,10 +124,12 @@ pub fn call_at(
     ensures { MatchOption result (tally.new ≡ tally.old) (λ _. Noted tally.old tally.new) }
 {
     let kind = Kind::of(numbers.next()?)?;
-    match kind {
-        Kind::Minimise | Kind::Eliminate => change_with_cells(
-            numbers, kind, lengths, stops, tally, problem,
-        ),
-        _ => question_at(numbers, kind, tally, problem),
-    }
+    let agrees = match kind {
+        Kind::Minimise | Kind::Eliminate => {
+            change_with_cells(numbers, kind, lengths, stops, problem)?
+        }
+        _ => question_at(numbers, kind, problem)?,
+    };
+    tally.note(kind, agrees);
+    Some(())
 }

@@ -21,42 +21,48 @@ use route_without::{Counts, Instance, Vehicle, try_without};
 pub use plan_copy::drop_empty;
 pub use route_without::{Allowance, Times, routes};
 
-// The attempt at route r of a plan that costs `before`. An error is a plan that is kept: both slices are as they were; the first work cells hold them
+// The work cells of a call: in the first 512 of `work` the plan stands while an attempt is made, in the others the attempt works.
+#[derive(Drop)]
+pub struct Bench<'a, 'b> {
+    pub work: &'a mut [u16],
+    pub times: Times<'b>,
+    pub ghost room: { 767 ≤ length work.now },
+}
+
+// The attempt at route r of a plan that costs `before`. An error is a plan that is kept: both slices are as they were; the work cells hold them
 // meanwhile. Either comes with the counts of the call so far.
 pub fn attempt(
     routes: &mut Routes,
-    work: &mut [u16],
-    times: &mut Times,
+    bench: &mut Bench,
     allowance: Allowance,
     r: usize,
     before: f64,
     counted: Counts,
     given: &Instance,
 ) -> Result<Counts, Counts>
-    requires attempting { Attempting (of_instance given.now) allowance.tape.now allowance.limit routes.old work.old counted }
+    requires attempting { Attempting (of_instance given.now) allowance.tape.now allowance.limit routes.old counted }
     requires r_in_bounds { r < length routes.old.lengths.now }
     requires before_value { before ≡ cost (of_instance given.now) (plan_of routes.old) }
     requires few { length routes.old.lengths.now ≤ 256 }
-    requires has_room { 767 ≤ length work.old }
     ensures plan { tried result (split (but_last routes.new.lengths.now) routes.new.stops.now) ≡ attempt (allowed allowance.entry)
         (of_instance given.now) (plan_of routes.old) r counted }
     ensures held { Leaves result routes.old routes.new }
     ensures kept { Keeps routes.old routes.new }
 {
+    let work = &mut *bench.work;
     keep(work, routes);
     let tried = try_without(
         routes,
         &mut work[512..],
-        times,
+        &mut bench.times,
         allowance,
         r,
         before,
         counted,
         given,
     );
-    if let Err(counts) = tried {
+    if tried.is_err() {
         restore(routes.lengths, routes.stops, work);
-        return Err(counts);
     }
     tried
 }

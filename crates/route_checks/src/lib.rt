@@ -3,8 +3,9 @@
 #![tactic(auto)]
 
 ghost use Rattle.std.specs.Prelude.{◌≡◌};
-ghost use Rattle.evaluation.specs.models.Customer.{windowed};
 ghost use Rattle.evaluation.specs.Check.{soft, has_time_windows, has_soft_windows, route_checks_needed};
+
+use evaluation::{is_penalised, is_windowed};
 
 // Of the crates below, passed on to those above.
 pub use evaluation::check::{
@@ -18,18 +19,11 @@ pub use evaluation::{
     penalty_at, ride_all, ride_home, scale, serve_at, total_less, travel_time, window_at,
 };
 
-// Whether a place's flags say that it has a window.
-fn is_windowed(flag: u8) -> bool
-    ensures { result ≡ windowed flag }
-{
-    flag % 2 == 1
-}
-
 // Whether a place's flags say that it has a window and a penalty.
 fn is_soft(flag: u8) -> bool
     ensures { result ≡ soft flag }
 {
-    flag % 2 == 1 && flag / 2 % 2 == 1
+    is_windowed(flag) && is_penalised(flag)
 }
 
 // Whether any place has a time window.

@@ -1,5 +1,5 @@
-// The distance of a route, the least gain that counts, and an insertion that a search has found. None of them reads travel times, so the matrix of each contract
-// has none. What an insertion adds to a route is worked out in `insertion_cost`, the cost of a plan in `plan_cost`.
+// The distance of a route, the least gain that counts, and an insertion that a search has found. None of them reads travel times.
+// What an insertion adds to a route is worked out in `insertion_cost`, the cost of a plan in `plan_cost`.
 #![tactic(auto)]
 
 ghost use Rattle.std.specs.Prelude.{◌≡◌, [], ◌*◌, ◌<◌, ◌≤◌, length};
@@ -15,7 +15,7 @@ pub use evaluation_laws::{
     evaluation_route_feasible, get, has_soft_windows, infinity, max, min, route_checks_needed,
     travel_time, trial_feasible,
 };
-pub use plan::copy_part;
+pub use plan::{copy_part, each};
 
 // An insertion that a search has found: what it costs, the route, the position.
 #[derive(Clone, Copy)]

@@ -57,13 +57,7 @@ pub fn home(
     let distance = walk.distance + get(roads, walk.prev, depot);
     let duration = walk.label.time + travel_time(roads, walk.prev, depot);
     if limits.allow(distance, duration) {
-        return Some(RouteEval {
-            distance,
-            duration,
-            lateness: walk.label.lateness,
-            lateness_cost: walk.label.lateness_cost,
-            rest: None,
-        });
+        return Some(RouteEval::of(walk.label, distance, duration, None));
     }
     None
 }

@@ -11,4 +11,3 @@ pub use Rattle.ejection_positions.specs.ejection as ejection
 pub use Rattle.ejection_positions.specs.PlanExchanges as PlanExchanges
 pub use Rattle.ejection_positions.specs.RouteCostVisitLaws as RouteCostVisitLaws
 pub use Rattle.ejection_positions.specs.RouteLoadFeasibleLaws as RouteLoadFeasibleLaws
-pub use Rattle.ejection_positions.specs.InsertionLeftLaws as InsertionLeftLaws

@@ -3,66 +3,63 @@
 
 ghost use Rattle.std.specs.Prelude.{◌≡◌, ◌<◌, ◌≤◌, length};
 ghost use Rattle.ejection_positions.specs.ejection.Eject.{try_out, try_one, try_two_from, try_two};
-ghost use Rattle.ejection_positions.specs.ejection.Asked.{Sought};
+ghost use Rattle.ejection_positions.specs.models.Problem.{Stops};
 ghost use Rattle.ejection_positions.specs.evaluation.Given.{of_instance};
 
 use ejection_positions::{Out, fails_more, failure_sum, keep, try_left};
 
 // Of the crates below, passed on to those above.
 pub use ejection_positions::{
-    Demand, Ejection, Fleet, Instance, Times, Vehicle, checked, feasible, routes, within_capacity,
+    Demand, Ejection, Fleet, Instance, Sought, Times, Vehicle, checked, feasible, routes,
+    within_capacity,
 };
 
 // The stops at i and j leave route k: first their failures alone, then what is kept.
 fn try_out(
     work: &mut [u16],
     times: &mut Times,
-    failures: &[u32],
+    sought: &Sought,
     route: &[u16],
     k: usize,
     i: usize,
     j: usize,
-    c: usize,
     best: Option<Ejection>,
-    given: &Instance,
 ) -> Option<Ejection>
-    requires sought { Sought (of_instance given.now) failures.now route.now c }
+    requires stops { Stops sought.now.given.now.fleet.net.roads.size route.now }
     requires room { length route.now ≤ length work.old }
     requires leave { (i ≤ j) × (j < length route.now) }
-    ensures { result ≡ try_out (of_instance given.now) c failures.now k route.now i j best }
+    ensures { result ≡ try_out (of_instance sought.now.given.now) sought.now.c sought.now.failures.now k route.now i j best }
 {
-    let failed = failure_sum(failures, route, i, j);
+    let failed = failure_sum(sought.failures, route, i, j);
     if fails_more(failed, best) {
         return best;
     }
-    let m = keep(work, route, i, j);
+    let left = keep(work, route, i, j);
     let out = Out {
-        failed: failed,
+        failed,
         route: k,
         first: i,
         second: j,
     };
-    try_left(times, &work[..m], out, c, best, given)
+    try_left(times, left, out, sought.c, best, sought.given)
 }
 
 // One stop leaves route k.
 pub fn try_one(
     work: &mut [u16],
     times: &mut Times,
-    failures: &[u32],
+    sought: &Sought,
     route: &[u16],
     k: usize,
-    c: usize,
     best: Option<Ejection>,
-    given: &Instance,
 ) -> Option<Ejection>
-    requires sought { Sought (of_instance given.now) failures.now route.now c }
+    requires stops { Stops sought.now.given.now.fleet.net.roads.size route.now }
     requires room { length route.now ≤ length work.old }
-    ensures { result ≡ try_one (of_instance given.now) c failures.now k route.now best }
+    ensures { result ≡ try_one (of_instance sought.now.given.now) sought.now.c sought.now.failures.now k route.now best }
 {
     let mut found = best;
     for i in 0..route.len() {
-        found = try_out(work, times, failures, route, k, i, i, c, found, given);
+        found = try_out(work, times, sought, route, k, i, i, found);
     }
     found
 }
@@ -71,33 +68,20 @@ pub fn try_one(
 fn try_two_from(
     work: &mut [u16],
     times: &mut Times,
-    failures: &[u32],
+    sought: &Sought,
     route: &[u16],
     k: usize,
     i: usize,
-    c: usize,
     best: Option<Ejection>,
-    given: &Instance,
 ) -> Option<Ejection>
-    requires sought { Sought (of_instance given.now) failures.now route.now c }
+    requires stops { Stops sought.now.given.now.fleet.net.roads.size route.now }
     requires room { length route.now ≤ length work.old }
     requires leaves { i < length route.now }
-    ensures { result ≡ try_two_from (of_instance given.now) c failures.now k route.now i best }
+    ensures { result ≡ try_two_from (of_instance sought.now.given.now) sought.now.c sought.now.failures.now k route.now i best }
 {
     let mut found = best;
-    for d in 0..route.len() - (i + 1) {
-        found = try_out(
-            work,
-            times,
-            failures,
-            route,
-            k,
-            i,
-            i + 1 + d,
-            c,
-            found,
-            given,
-        );
+    for j in i + 1..route.len() {
+        found = try_out(work, times, sought, route, k, i, j, found);
     }
     found
 }
@@ -106,20 +90,18 @@ fn try_two_from(
 pub fn try_two(
     work: &mut [u16],
     times: &mut Times,
-    failures: &[u32],
+    sought: &Sought,
     route: &[u16],
     k: usize,
-    c: usize,
     best: Option<Ejection>,
-    given: &Instance,
 ) -> Option<Ejection>
-    requires sought { Sought (of_instance given.now) failures.now route.now c }
+    requires stops { Stops sought.now.given.now.fleet.net.roads.size route.now }
     requires room { length route.now ≤ length work.old }
-    ensures { result ≡ try_two (of_instance given.now) c failures.now k route.now best }
+    ensures { result ≡ try_two (of_instance sought.now.given.now) sought.now.c sought.now.failures.now k route.now best }
 {
     let mut found = best;
     for i in 0..route.len() {
-        found = try_two_from(work, times, failures, route, k, i, c, found, given);
+        found = try_two_from(work, times, sought, route, k, i, found);
     }
     found
 }

@@ -8,5 +8,5 @@ pub use Rattle.insertion.specs.route_cost as route_cost
 pub use Rattle.insertion.specs.route_load as route_load
 pub use Rattle.insertion.specs.local_search as local_search
 pub use Rattle.insertion.specs as insertion
+
 -- and their laws
-pub use Rattle.insertion.proofs.LeftLaws as InsertionLeftLaws

@@ -27,7 +27,7 @@ fn try_positions(
     requires there { c < fleet.now.net.roads.size }
     requires stops { Stops fleet.now.net.roads.size route.now }
     ensures { result ≡ loop (suc (length route.now))
-        (pass_position (of_fleet fleet.now) c k route.now (held (length route.now) times.now.cells.now)) best }
+        (pass_position (of_fleet fleet.now) c k route.now (held (length route.now) times.now)) best }
 {
     let mut found = best;
     for pos in 0..route.len() + 1 {

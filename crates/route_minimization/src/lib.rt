@@ -13,27 +13,26 @@ use minimization_search::{Counts, Instance, Reduction, search};
 
 // Of the crates below, passed on to those above.
 pub use minimization_search::{
-    Allowance, Customers, DistanceMatrix, Problem, Times, Vehicle, rounds,
+    Allowance, Bench, Customers, DistanceMatrix, Problem, Times, Vehicle, rounds,
 };
 
 // `minimize_routes`: with a soft window the plan comes back as given, otherwise with as many routes fewer as the attempts find.
 pub fn minimize_routes(
     lengths: &mut [u16],
     stops: &mut [u16],
-    work: &mut [u16],
-    times: &mut Times,
+    bench: &mut Bench,
     allowance: Allowance,
     given: &Instance,
 ) -> Reduction
-    requires { Searching (of_instance given.now) allowance.tape.now allowance.limit lengths.old stops.old work.old }
+    requires { Searching (of_instance given.now) allowance.tape.now allowance.limit lengths.old stops.old }
     ensures { Answers (minimize_routes (allowed allowance.entry) (of_instance given.now) (split lengths.old stops.old)) (length lengths.old)
         result.routes result.counts lengths.new stops.new }
 {
     if given.fleet.soft {
         return Reduction {
             routes: lengths.len(),
-            counts: Counts { steps: 0, draws: 0 },
+            counts: Counts::default(),
         };
     }
-    search(lengths, stops, work, times, allowance, given)
+    search(lengths, stops, bench, allowance, given)
 }

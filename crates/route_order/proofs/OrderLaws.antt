@@ -1,55 +1,13 @@
--- The branches and the loop by which the next route is picked. Assumes nothing.
+-- The loop by which the next route is picked. Assumes nothing.
 use Prim.Native.Nat.{ℕ, ◌+◌, ◌≤◌, ◌<◌, zero-le}
 use mathlib.Core.Path.{◌≡◌}
-use mathlib.Core.Bool.{Bool, true, false}
 use mathlib.Core.List.{List}
-use Rattle.std.proofs.Common.{Option, None, Some}
+use Rattle.std.proofs.Common.{Option, None}
 use native.Mathlib.Omega.{arith}
 use lib.ListN.{length, get_or}
-use lib.Dec.{ltb}
-use borrow.Author.Tests.{eq-eqb, ne_eqb, lt-ltb, le-ltb}
 use Rattle.plan.specs.laws.Loops.{loop, loop_none, loop_more, loop_end}
 use Rattle.route_order.specs.declared.Pick.{Pick}
-use Rattle.route_order.specs.Order.{at, is_after, shorter, considered, next_pick}
-
-module _ (o : Option Pick) (k n : ℕ) where
-  pub after_none : o ≡ None → true ≡ is_after o k n
-  unfolding is_after
-  after_none e = rw e
-
-  pub after_equal : (p : Pick) → o ≡ Some p → p.length ≡ n → ltb p.route k ≡ is_after o k n
-  unfolding is_after
-  after_equal p e q = rw (e, eq-eqb p.length n q)
-
-  pub after_other : (p : Pick) → o ≡ Some p → (p.length ≡ n → ⊥) → ltb p.length n ≡ is_after o k n
-  unfolding is_after
-  after_other p e q = rw (e, ne_eqb p.length n q)
-
-  pub shorter_none : o ≡ None → at k n ≡ shorter o k n
-  unfolding shorter
-  shorter_none e = rw e
-
-  pub shorter_new : (p : Pick) → o ≡ Some p → n < p.length → at k n ≡ shorter o k n
-  unfolding shorter
-  shorter_new p e h = rw (e, lt-ltb n p.length h)
-
-  pub shorter_old : (p : Pick) → o ≡ Some p → p.length ≤ n → Some p ≡ shorter o k n
-  unfolding shorter
-  shorter_old p e h = rw (e, le-ltb n p.length h)
-
-  pub considered_new : (best r : Option Pick) (t : Bool) → t ≡ is_after o k n → t ≡ true → r ≡ shorter best k n → r ≡ considered o best k n
-  unfolding considered
-  considered_new best r t e q f = rw (← e, q) f
-
-  pub considered_old : (best : Option Pick) (t : Bool) → t ≡ is_after o k n → t ≡ false → best ≡ considered o best k n
-  unfolding considered
-  considered_old best t e q = rw (← e, q)
-
-pub ruleset after_laws = (after_none, after_equal, after_other)
-
-pub ruleset shorter_laws = (shorter_none, shorter_new, shorter_old)
-
-pub ruleset considered_laws = (considered_new, considered_old)
+use Rattle.route_order.specs.Order.{considered, next_pick}
 
 -- ---- `next_pick`: the best of the first k routes
 

@@ -4,60 +4,41 @@
 ghost use Rattle.std.specs.Prelude.{◌≡◌};
 ghost use Rattle.route_order.specs.Order.{is_after, shorter, considered, next_pick};
 
+use plan::routes::Routes;
+
 // Of the crates below, passed on to those above.
 pub use plan::{copy_part, cut, insert_at, routes};
 
-// A route and its length.
-#[derive(Clone, Copy)]
+// A route and its length. A shorter one comes first, and of equals the one with the smaller index.
+#[derive(Clone, Copy, PartialEq, Eq, PartialOrd, Ord)]
 pub struct Pick {
-    pub route: usize,
     pub length: u16,
+    pub route: usize,
 }
 
-// Whether route k of length n comes after the last pick: by length, then by index.
-fn is_after(last: Option<Pick>, k: usize, n: u16) -> bool
-    ensures { result ≡ is_after last k n }
+// Whether a route comes after the last pick.
+#[tactic(auto, unfolding(crate::specs::Order::is_after))]
+fn is_after(last: Option<Pick>, pick: Pick) -> bool
+    ensures { result ≡ is_after last pick.route pick.length }
 {
-    match last {
-        None => true,
-        Some(p) => {
-            if p.length == n {
-                p.route < k
-            } else {
-                p.length < n
-            }
-        }
-    }
+    last < Some(pick)
 }
 
-// The shorter of the best so far and route k of length n, the first of equals.
-fn shorter(best: Option<Pick>, k: usize, n: u16) -> Option<Pick>
-    ensures { result ≡ shorter best k n }
+// The shorter of the best so far and a route, the best so far where they are equal.
+#[tactic(auto, unfolding(crate::specs::Order::shorter))]
+fn shorter(best: Option<Pick>, pick: Pick) -> Option<Pick>
+    ensures { result ≡ shorter best pick.route pick.length }
 {
-    match best {
-        None => Some(Pick {
-            route: k,
-            length: n,
-        }),
-        Some(p) => {
-            if n < p.length {
-                Some(Pick {
-                    route: k,
-                    length: n,
-                })
-            } else {
-                best
-            }
-        }
-    }
+    best.filter(|p| p.length <= pick.length).or(Some(pick))
 }
 
-// The best so far after a look at route k of length n.
-fn considered(last: Option<Pick>, best: Option<Pick>, k: usize, n: u16) -> Option<Pick>
-    ensures { result ≡ considered last best k n }
+// The best so far after a look at a route.
+#[tactic(auto, unfolding(crate::specs::Order::considered))]
+fn considered(last: Option<Pick>, best: Option<Pick>, pick: Pick) -> Option<Pick>
+    ensures { result ≡ considered last best pick.route pick.length }
 {
-    if is_after(last, k, n) {
-        shorter(best, k, n)
+    if is_after(last, pick) {
+        shorter(best, pick)
     } else {
         best
     }
@@ -68,8 +49,22 @@ pub fn next_pick(lengths: &[u16], last: Option<Pick>) -> Option<Pick>
     ensures { result ≡ next_pick lengths.now last }
 {
     let mut best = None;
-    for (k, n) in lengths.iter().enumerate() {
-        best = considered(last, best, k, *n);
+    for (route, length) in lengths.iter().enumerate() {
+        best = considered(
+            last,
+            best,
+            Pick {
+                length: *length,
+                route,
+            },
+        );
     }
     best
+}
+
+// The same of routes. A field that is lent from behind `&mut Routes` would lose what the routes hold; here the whole is.
+pub fn pick_after(routes: &Routes, last: Option<Pick>) -> Option<Pick>
+    ensures { result ≡ next_pick routes.now.lengths.now last }
+{
+    next_pick(routes.lengths, last)
 }

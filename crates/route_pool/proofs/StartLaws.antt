@@ -1,12 +1,14 @@
 -- The pool at the start. Assumes nothing.
-use Prim.Native.Nat.{ℕ, zero, suc, ◌+◌, ◌≤◌, ◌<◌}
-use mathlib.Core.Path.{◌≡◌, refl, sym, ap, ◌∙◌}
+use Prim.Native.Nat.{ℕ, zero, suc, ◌≤◌, ◌<◌}
+use mathlib.Core.Path.{◌≡◌, refl, ap, ◌∙◌}
 use mathlib.Core.List.{List, [], ◌∷◌, ◌++◌, reverse, reverse_aux}
 use native.Mathlib.Omega.{arith}
-use lib.ListN.{length, take, drop, get_or, length-drop}
-use lib.Seq.{paste, take-suc, take_at, length-take-le}
-use Rattle.ejection_made.specs.plan.Plan.{Lent, split, route, offset}
-use Rattle.ejection_made.specs.plan.Slices.{route_within, route_split}
+use lib.ListN.{length, take, drop, get_or, length-append}
+use lib.Seq.{take-suc, take_at}
+use Rattle.ejection_made.specs.plan.Plan.{route}
+use Rattle.ejection_made.specs.plan.Slices.{route_within, length_route}
+use Rattle.ejection_made.specs.plan.Given.{plan_of}
+use Rattle.ejection_made.specs.plan.declared.routes.Routes.{Routes}
 use Rattle.ejection_made.specs.Made.{stack}
 
 -- the pool is the front of its cells, the last of them on top
@@ -19,24 +21,20 @@ unfolding stack
 stack_front cells zero h = refl
 stack_front cells (suc m) h = rw (take-suc cells m 0 h, snoc (take m cells) [] (get_or cells m 0), stack_front cells m (omega arith))
 
-module _ (lengths stops : List ℕ) (r at : ℕ) (l : Lent lengths stops) (h : r < length lengths) where
-  module _ (e : at ≡ offset lengths r) where
-    pub route_in_stops : at + get_or lengths r 0 ≤ length stops
-    route_in_stops = omega (arith, route_within lengths r h, l.inside)
+-- the stops of route r, as they are lent
+module _ (lent : Routes) (r : ℕ) {t : List ℕ} (e : t ≡ route r (plan_of lent)) where
+  route_few : r < length lent.lengths.now → length t ≤ length lent.stops.now
+  route_few h =
+      omega (arith, ap length e, length_route lent.lengths.now lent.stops.now lent.lent.inside r, route_within lent.lengths.now r h, lent.lent.inside)
 
-    pub count_in_pool : (pool : List ℕ) → length stops ≤ length pool → 0 + get_or lengths r 0 ≤ length pool
-    count_in_pool pool f = omega (arith, route_in_stops)
+  module _ (pool : List ℕ) (h : r < length lent.lengths.now) (f : length lent.stops.now ≤ length pool) where
+    pub count_in_pool : length t ≤ length pool
+    count_in_pool = omega (arith, route_few h)
 
-    pub count_in_cells : (pool cells : List ℕ) → length stops ≤ length pool → length cells ≡ length pool → get_or lengths r 0 ≤ length cells
-    count_in_cells pool cells f n = omega (arith, route_in_stops)
+    pub count_in_cells : length t ≤ length (t ++ drop (length t) pool)
+    count_in_cells = rw length-append (omega arith)
 
-    pub pool_copied : (pool : List ℕ) {pool₁ : List ℕ} → length stops ≤ length pool → pool₁ ≡ paste pool 0 (drop at stops) (get_or lengths r 0) → length pool₁ ≡ length pool
-        → stack pool₁ (get_or lengths r 0) ≡ reverse (route r (split lengths stops))
-    pool_copied pool {pool₁} f c n =
-        let k = get_or lengths r 0 in
-        let t : length (take k (drop at stops)) ≡ k = length-take-le k (drop at stops) (simp length-drop (omega (arith, route_in_stops))) in
-        let front : take k pool₁ ≡ take k (drop at stops) = ap (take k) c ∙ take_at (take k (drop at stops)) (drop (0 + k) pool) k t in
-        stack_front pool₁ k (omega (arith, n, route_in_stops))
-        ∙ ap reverse (front ∙ ap (λ (m : ℕ). take k (drop m stops)) e ∙ sym (route_split lengths stops r))
-
-pub ruleset pool_laws = (route_in_stops, count_in_pool, count_in_cells, pool_copied)
+    pub pool_copied : stack (t ++ drop (length t) pool) (length t) ≡ reverse (route r (plan_of lent))
+    pool_copied =
+        stack_front (t ++ drop (length t) pool) (length t) count_in_cells
+        ∙ ap reverse (take_at t (drop (length t) pool) (length t) refl ∙ e)

@@ -17,8 +17,7 @@ pub fn to_pool(pool: &mut Pool, routes: &Routes, r: usize)
     ensures stops { pooled pool.new ≡ reverse (route r (plan_of routes.now)) }
     ensures kept { SameCells pool.old pool.new }
 {
-    let at = routes.begins(r);
-    let count = routes.lengths[r] as usize;
-    copy_part(pool.cells, 0, routes.stops, at, count);
-    pool.count = count;
+    let route = routes.route(r);
+    pool.cells[..route.len()].copy_from_slice(route);
+    pool.count = route.len();
 }

@@ -22,21 +22,11 @@ pub fn erase_route(routes: &mut Routes, k: usize)
     let used = routes.used();
     let at = routes.begins(k);
     let n = routes.lengths[k] as usize;
-    route_exchange::cut(routes.stops, used, at, n);
+    route_exchange::cut(&mut routes.stops[..used], at, n);
     let lengths = &mut *routes.lengths;
     let count = lengths.len();
-    route_exchange::cut(lengths, count, k, 1);
+    route_exchange::cut(lengths, k, 1);
     lengths[count - 1] = 0;
-}
-
-// 1 for a route with stops, 0 for an empty one.
-fn counted(n: u16) -> usize
-    ensures { result ≡ length (drop_zero (n ∷ [])) }
-{
-    if n == 0 {
-        return 0;
-    }
-    1
 }
 
 // Empty routes are dropped: the other lengths come first, in order, and later ones become 0; the stops stay. Returns how many routes are left.
@@ -48,7 +38,7 @@ pub fn drop_empty(lengths: &mut [u16]) -> usize
     for k in 0..lengths.len() {
         let n = lengths[k];
         lengths[r] = n;
-        r += counted(n);
+        r += usize::from(n != 0);
     }
     route_exchange::clear(&mut lengths[r..]);
     r

@@ -15,8 +15,8 @@ use emptied_route::worth;
 
 // Of the crates below, passed on to those above.
 pub use emptied_route::{
-    Counts, Demand, Instance, LocalSearchNext, Pick, Problem, Reduction, Vehicle, empty_route,
-    is_finite, next_pick, route_cost_gain_floor, routes,
+    Counts, Demand, Elimination, Instance, LocalSearchNext, Pick, Problem, Reduction, Vehicle,
+    empty_route, is_finite, pick_after, route_cost_gain_floor, routes,
 };
 
 // What is saved where route r goes: its worth and its fixed cost.
@@ -24,8 +24,6 @@ pub fn saved_by(routes: &Routes, r: usize, given: &Instance) -> f64
     requires { Attempted (of_instance given.now) routes.now r }
     ensures { result ≡ worth (of_instance given.now) (route r (plan_of routes.now)) ⊕ fixed_cost_in_distance given.now.fleet.vehicle }
 {
-    let at = routes.begins(r);
-    let end = at + routes.lengths[r] as usize;
-    let own = worth(&routes.stops[at..end], &given.fleet);
+    let own = worth(routes.route(r), &given.fleet);
     own + given.fleet.vehicle.fixed_cost_in_distance()
 }

@@ -27,8 +27,8 @@ use Rattle.pool_attempt.specs.Judged.{tried, judged}
 use Rattle.route_without.specs.Attempting.{Attempting}
 
 -- `new` is what `erase_route` leaves of `old`, of whose lengths the first m are lent; the pool has the route's stops
-module _ {p : Problem} {tape : List ℕ} {limit : ℕ} {old : Routes} {work : List ℕ} {counted : Counts} (r : ℕ)
-    (g : Attempting p tape limit old work counted) (there : r < length old.lengths.now) (new : Routes) (pool : Pool) (m : ℕ)
+module _ {p : Problem} {tape : List ℕ} {limit : ℕ} {old : Routes} {counted : Counts} (r : ℕ)
+    (g : Attempting p tape limit old counted) (there : r < length old.lengths.now) (new : Routes) (pool : Pool) (m : ℕ)
     (e : new.lengths.now ≡ erase r old.lengths.now ++ 0 ∷ [])
     (h : Holds (erase r (plan_of old)) (total old.lengths.now - get_or old.lengths.now r 0) (erase r old.lengths.now) new.stops.now)
     (kept : Keeps old new) (top : pooled pool ≡ reverse (route r (plan_of old))) (last : m ≡ length new.lengths.now - 1) where
@@ -50,9 +50,9 @@ module _ {p : Problem} {tape : List ℕ} {limit : ℕ} {old : Routes} {work : Li
   pub starts_lent : Lent (take m new.lengths.now) new.stops.now
   starts_lent = rw front (record { inside = omega (arith, h.sum, g.whole, kept.room); few = omega (arith, kept.room, g.few) })
 
-  pub starts_running : 256 ≤ length pool.cells.now
+  pub starts_running : {work : List ℕ} → 256 ≤ length pool.cells.now → length old.stops.now ≤ length work
       → Running p tape limit (split (take m new.lengths.now) new.stops.now) (length new.stops.now) pool work (replicate p.roads.size 1) counted
-  starts_running room =
+  starts_running room free =
       let plan = plan_of old in
       let own : length (flat plan) ≡ length old.stops.now = ap length (flat_split_all old.lengths.now old.stops.now g.whole) in
       record {
@@ -66,7 +66,7 @@ module _ {p : Problem} {tape : List ℕ} {limit : ℕ} {old : Routes} {work : Li
           drawn = g.drawn;
         };
         pool_room = room;
-        work_room = omega (arith, kept.room, g.work_room);
+        work_room = omega (arith, kept.room, free);
       }
     where
       most_one : (n k : ℕ) → get_or {A = ℕ} (replicate n 1) k 0 ≤ 1

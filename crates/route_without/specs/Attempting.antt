@@ -8,11 +8,10 @@ use Rattle.pool_attempt.specs.local_search.declared.rounds.Counts.{Counts}
 use Rattle.pool_attempt.specs.local_search.Planned.{Planned}
 
 -- an attempt at a route of a plan that fills both slices
-pub record Attempting (p : Problem) (tape : List ℕ) (limit : ℕ) (routes : Routes) (work : List ℕ) (counts : Counts) : Type 0 where
+pub record Attempting (p : Problem) (tape : List ℕ) (limit : ℕ) (routes : Routes) (counts : Counts) : Type 0 where
   pub drawable : 0 < length tape
   pub whole : total routes.lengths.now ≡ length routes.stops.now
   pub few : length routes.stops.now ≤ 255
   pub planned : Planned p.roads.size (plan_of routes)
   pub limited : limit ≤ 65535
   pub drawn : counts.draws + 500 * limit < 9_000_000_000_000_000_000
-  pub work_room : length routes.stops.now ≤ length work

@@ -1,7 +1,7 @@
 // The plan without a route, whose stops are emptied into the others (local_search/route_minimization.rs, in the body of the round in `minimize_routes`).
 #![tactic(auto)]
 
-ghost use Rattle.std.specs.Prelude.{◌≡◌, ◌<◌, length};
+ghost use Rattle.std.specs.Prelude.{◌≡◌, ◌<◌, ◌≤◌, length};
 ghost use Rattle.route_removal.specs.plan.Plan.{split};
 ghost use Rattle.route_removal.specs.plan.Given.{plan_of, Keeps};
 ghost use Rattle.pool_attempt.specs.route_cost.Route.{cost};
@@ -32,7 +32,8 @@ pub fn try_without(
     counted: Counts,
     given: &Instance,
 ) -> Result<Counts, Counts>
-    requires attempting { Attempting (of_instance given.now) allowance.tape.now allowance.limit routes.old work.old counted }
+    requires attempting { Attempting (of_instance given.now) allowance.tape.now allowance.limit routes.old counted }
+    requires has_room { length routes.old.stops.now ≤ length work.old }
     requires r_in_bounds { r < length routes.old.lengths.now }
     requires before_value { before ≡ cost (of_instance given.now) (plan_of routes.old) }
     ensures plan { tried result (split (but_last routes.new.lengths.now) routes.new.stops.now) ≡ attempt (allowed allowance.entry)

@@ -3,7 +3,6 @@ use Rattle.std.specs.Prelude.{Option, Some, None}
 use Prim.Native.Nat.{ℕ, ◌<◌}
 use mathlib.Core.Path.{◌≡◌, refl, sym, subst, ◌∙◌}
 use mathlib.Core.List.{List}
-use lib.Ieee.{Float}
 use Rattle.route_drive.specs.laws.Walks.{walk_rule}
 use Rattle.route_drive.specs.models.Customer.{Customers}
 use Rattle.route_drive.specs.models.Problem.{DistanceMatrix, Stops}

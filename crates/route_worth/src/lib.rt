@@ -39,8 +39,5 @@ pub fn effective_cost(route: &[u16], depot: usize, limits: RouteLimits, net: &Ne
     requires { (depot < net.now.roads.size) × Stops net.now.roads.size route.now }
     ensures { result ≡ effective_cost net.now.places net.now.roads depot limits route.now }
 {
-    match route_eval(route, depot, limits, net) {
-        Some(e) => e.priced_distance(),
-        None => infinity(),
-    }
+    route_eval(route, depot, limits, net).map_or(infinity(), |e| e.priced_distance())
 }

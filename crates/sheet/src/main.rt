@@ -1,20 +1,15 @@
 // Prints what the sheet on standard input prints: its listing, or the line of its refusal.
 #![tactic(auto)]
 
-ghost use Rattle.std.specs.Prelude.{◌≡◌, length};
-
-use sheet_print::{listing_room, print_sheet};
+use room::zeros;
+use sheet_print::{LISTING_ROOM, print_sheet};
 
 // Room for a sheet and one byte more, by which a sheet that is too long is known.
-fn sheet_room() -> [u8; 60001]
-    ensures { 60001 ≡ length result }
-{
-    [0; 60001]
-}
+const SHEET_ROOM: usize = 60001;
 
 fn main() {
-    let mut text = sheet_room();
-    let mut out = listing_room();
+    let mut text: [u8; SHEET_ROOM] = zeros();
+    let mut out: [u8; LISTING_ROOM] = zeros();
     let n = io::read_full(0, &mut text);
     print_sheet(&mut out, &text[..n]);
 }

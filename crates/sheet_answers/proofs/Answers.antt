@@ -13,7 +13,7 @@ use Rattle.planner.specs.ejection_pool.Running.{allowance}
 use Rattle.planner.specs.minimization.Minimize.{minimize_routes}
 use Rattle.planner.specs.elimination_moves.Eliminate.{eliminate_routes}
 use Rattle.planner.specs.entry.Table.{refusal}
-use Rattle.planner.specs.entry.Given.{minimise_inputs, eliminate_inputs}
+use Rattle.planner.specs.entry.Given.{eliminate_inputs}
 use Rattle.planner.specs.Calls.{plan_in, reply, public_minimise, public_eliminate}
 use Rattle.planner.specs.Run.{minimise, call}
 use Rattle.sheet_laws.specs.sheet_text.Text.{Reading, refused, got}

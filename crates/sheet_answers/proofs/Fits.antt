@@ -21,7 +21,8 @@ use Rattle.planner.specs.minimization.Minimize.{minimize_routes}
 use Rattle.planner.specs.minimization.Minimized.{minimize_keeps}
 use Rattle.planner.specs.elimination_moves.Eliminate.{eliminate_routes}
 use Rattle.planner.specs.elimination_moves.Eliminated.{eliminate_keeps}
-use Rattle.planner.specs.entry.Table.{Work, refusal}
+use Rattle.planner.specs.entry.declared.Work.{Work}
+use Rattle.planner.specs.entry.Table.{refusal}
 use Rattle.planner.specs.entry.Given.{minimise_inputs, eliminate_inputs}
 use Rattle.planner.specs.Calls.{Answer, refused, answered, plan_in, reply, public_minimise, public_eliminate}
 use Rattle.sheet_laws.specs.sheet_text.Text.{Reading, refused as refused-reading, got}

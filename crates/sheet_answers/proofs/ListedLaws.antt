@@ -1,19 +1,17 @@
 -- The two calls of a sheet, one after the other, and what may be relied on where eliminate answers. Assumes nothing.
-use Prim.Native.Nat.{ℕ, suc, ◌*◌, ◌^◌, ◌≤◌, ◌<◌}
+use Prim.Native.Nat.{ℕ, zero, suc, ◌*◌, ◌^◌, ◌≤◌, ◌<◌}
 use mathlib.Core.Path.{◌≡◌, refl, sym, ap, subst, ◌∙◌}
 use mathlib.Core.List.{List, [], ◌∷◌}
 use Rattle.std.specs.Prelude.{Option, None, Some, Result, Ok, Err}
 use native.Mathlib.Nat.{mul-le-mul_right}
 use native.Mathlib.Omega.{arith}
-use lib.ListN.{length, take, length-take}
-use lib.IntN.{ℤ}
+use lib.ListN.{length, take, drop, length-take}
 use lib.Dec.{T}
 use lib.Ieee.{Float, binary64, in_unsigned}
 use Rattle.planner.specs.laws.All.{All, all_of, all_map, all_take, all_head}
-use Rattle.planner.specs.models.declared.vehicle.Vehicle.{Vehicle}
 use Rattle.planner.specs.models.Problem.{Problem, matrix, depot, Stops, Demands}
 use Rattle.planner.specs.plan.Plan.{Plan, Slices, Lent, split, flat}
-use Rattle.planner.specs.plan.Slices.{length_split, flat_split_all}
+use Rattle.planner.specs.plan.Slices.{length_split, flat_split_all, offset_within}
 use Rattle.planner.specs.local_search.Planned.{planned_stops}
 use Rattle.planner.specs.local_search.declared.rounds.Counts.{Counts}
 use Rattle.planner.specs.local_search.declared.rounds.Reduction.{Reduction}
@@ -109,6 +107,13 @@ stops_print p h home route s =
       castable = subst (λ (ds : List Float). T (in_unsigned binary64 64 (route_distance (matrix m.size ds m.times) (depot p) route))) (sym h.are) d.0;
     }
 
+-- the first routes of a plan are those of the first lengths
+split_take : (ls s : List ℕ) (k : ℕ) → split (take k ls) s ≡ take k (split ls s)
+unfolding split
+split_take ls s zero = refl
+split_take [] s (suc k) = refl
+split_take (n ∷ ls) s (suc k) = ap (λ (rs : Plan). take n s ∷ rs) (split_take ls (drop n s) k)
+
 -- ---- texts that are printed
 
 -- the text that is written is the one that the definition prints
@@ -135,53 +140,51 @@ module _
     lent = rw (h, g) at e
 
     module _ (counts : Counts) (given : ℕ) where
-      pub eliminate_refuses : (r : Refusal) (k : ℕ) → a ≡ Err r → k ≡ number r → refusal_line k ≡ eliminated p s counts given
+      pub eliminate_refuses : (r : Refusal) → a ≡ Err r → refusal_line (number r) ≡ eliminated p s counts given
       unfolding eliminated
-      eliminate_refuses r k f m =
+      eliminate_refuses r f =
           let x : record { answer = refused (number r); slices = slices_of lengths stops } ≡ public_eliminate p s work = rw f at lent in
-          rw (m, ← x)
+          rw (← x)
 
       module _ (d : Reduction) (f : a ≡ Ok d) where
         answers : said d (slices_of lengths stops) ≡ public_eliminate p s work
         answers = rw f at lent
 
-        -- the routes that are listed
+        -- the routes that are listed: those of the first lengths
         abbrev routes : Plan
-        routes = take d.routes (split lengths stops)
+        routes = split (take d.routes lengths) stops
 
         pub eliminate_lists : listing p routes counts given ≡ eliminated p s counts given
         unfolding eliminated
-        eliminate_lists = rw (← answers)
+        eliminate_lists = rw (split_take lengths stops d.routes, ← answers)
 
-        module _ (short : Short p.roads.size p.roads.distances) (few-lengths : length lengths ≤ 64) (few_stops : length stops ≤ 64)
-            (same : length lengths ≡ length s.lengths) (out : List ℕ) (room : 6000 ≤ length out) where
-          accepted : Accepted p (slices_of lengths stops)
-          unfolding call
-          accepted = (eliminate_accepted p (slices_of lengths stops) work (own_none p (slices_of lengths stops) (entry_passed_after p s (eliminate work) d (slices_of lengths stops) answers))).0
+        accepted : Accepted p (slices_of lengths stops)
+        unfolding call
+        accepted = (eliminate_accepted p (slices_of lengths stops) work (own_none p (slices_of lengths stops) (entry_passed_after p s (eliminate work) d (slices_of lengths stops) answers))).0
 
+        -- their lengths are there, and their stops lie in the slice
+        pub routes_there : length lengths ≡ length s.lengths → d.routes ≤ length lengths
+        routes_there same = omega (arith, few_routes p s d (slices_of lengths stops) answers, same)
+
+        pub routes_lent : length stops ≤ 64 → Lent (take d.routes lengths) stops
+        routes_lent few_stops = record { inside = omega (arith, offset_within lengths d.routes, accepted.sum); few = omega (arith, few_stops) }
+
+        module _ (short : Short p.roads.size p.roads.distances) (few-lengths : length lengths ≤ 64) (few_stops : length stops ≤ 64) (out : List ℕ) (room : 6000 ≤ length out) where
           -- what the writer of a listing asks for
           pub eliminate_asks
               : Room out 0 (listing p routes counts given)
               × (((p.roads.size ≤ 256) × (length p.roads.distances ≡ p.roads.size * p.roads.size))
-              × (((depot p < p.roads.size) × Demands p.roads.size p.demand × Lent lengths stops × (d.routes ≤ length lengths))
-              × (All (Stops p.roads.size) routes × All (Prints p) routes)))
+              × (((depot p < p.roads.size) × Demands p.roads.size p.demand) × (All (Stops p.roads.size) routes × All (Prints p) routes)))
           eliminate_asks =
               let b = accepted in
-              let inside = all_take d.routes (planned_stops p.roads.size (split lengths stops) b.planned) in
-              let few : length routes ≤ 64 = omega (arith, length-take d.routes (split lengths stops), length_split lengths stops, few-lengths) in
-              let in_all : length (flat routes) ≤ 64 = omega (arith, flat_take d.routes (split lengths stops), ap length (flat_split_all lengths stops b.sum), few_stops) in (
+              let first : routes ≡ take d.routes (split lengths stops) = split_take lengths stops d.routes in
+              let inside : All (Stops p.roads.size) routes = rw first (all_take d.routes (planned_stops p.roads.size (split lengths stops) b.planned)) in
+              let few : length routes ≤ 64 = rw first (omega (arith, length-take d.routes (split lengths stops), length_split lengths stops, few-lengths)) in
+              let in_all : length (flat routes) ≤ 64 = rw first (omega (arith, flat_take d.routes (split lengths stops), ap length (flat_split_all lengths stops b.sum), few_stops)) in (
                 record { fits = omega (arith, listing_fits p routes counts given few in_all, room) },
                 (
                   (b.admitted.fit.square.few, b.admitted.fit.square.distance_cells),
-                  (
-                    (
-                      b.admitted.depot_in,
-                      b.admitted.demands,
-                      record { inside = omega (arith, b.sum); few = omega (arith, few_stops) },
-                      omega (arith, few_routes p s d (slices_of lengths stops) answers, same),
-                    ),
-                    (inside, all_map (λ r q. stops_print p short b.admitted.depot_in r q) inside),
-                  ),
+                  ((b.admitted.depot_in, b.admitted.demands), (inside, all_map (λ r q. stops_print p short b.admitted.depot_in r q) inside)),
                 ),
               )
 
@@ -202,11 +205,11 @@ module _
     lent_first : reply_of a lengths stops ≡ public_minimise p plan (allowance limit clock tape) work
     lent_first = rw (h, g) at e
 
-    pub minimise_refuses : (r : Refusal) (k : ℕ) → a ≡ Err r → k ≡ number r → refusal_line k ≡ planned (sheet_of p plan tape limit clock)
+    pub minimise_refuses : (r : Refusal) → a ≡ Err r → refusal_line (number r) ≡ planned (sheet_of p plan tape limit clock)
     unfolding planned
-    minimise_refuses r k f m =
+    minimise_refuses r f =
         let x : record { answer = refused (number r); slices = slices_of lengths stops } ≡ public_minimise p plan (allowance limit clock tape) work = rw f at lent_first in
-        rw (m, ← x)
+        rw (← x)
 
     pub minimise_goes_on : (d : Reduction) → a ≡ Ok d → eliminated p (slices_of lengths stops) d.counts (length plan.lengths) ≡ planned (sheet_of p plan tape limit clock)
     unfolding planned

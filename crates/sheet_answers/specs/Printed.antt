@@ -5,7 +5,7 @@ use Rattle.planner.specs.plan.Plan.{Slices}
 use Rattle.planner.specs.local_search.declared.rounds.Counts.{Counts}
 use Rattle.planner.specs.local_search.declared.rounds.Reduction.{Reduction}
 use Rattle.planner.specs.ejection_pool.Running.{allowance}
-use Rattle.planner.specs.entry.Table.{Work}
+use Rattle.planner.specs.entry.declared.Work.{Work}
 use Rattle.planner.specs.Calls.{Answer, refused as refused_with, answered, plan_in, public_minimise, public_eliminate}
 use Rattle.sheet_laws.specs.sheet_text.Text.{Reading, refused, got}
 use Rattle.sheet_laws.specs.sheet_format.Form.{Sheet, sheet, given}

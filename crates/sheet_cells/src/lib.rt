@@ -9,7 +9,7 @@ use sheet_format::TimeWindow;
 
 // Of the crates below, passed on to those above.
 pub use sheet_format::places::place_line;
-pub use sheet_format::{Refusal, Text, byte, ending, heading, number_before, sheet_text_number};
+pub use sheet_format::{Refusal, Text, before, byte, ending, heading, sheet_text_number};
 
 // READY as its cell holds it, 0 where there is none.
 pub fn ready_cell(window: Option<TimeWindow>) -> f64

@@ -2,21 +2,19 @@
 #![tactic(auto)]
 
 ghost use Rattle.std.specs.Prelude.{◌≡◌, ◌≤◌, length, take, IfOk};
-ghost use Rattle.sheet_reader.specs.sheet_text.Text.{before, repeat, lf};
-ghost use Rattle.sheet_reader.specs.sheet_text.Text.{number as Text·number};
+ghost use Rattle.sheet_reader.specs.sheet_text.Text.{repeat, lf};
+ghost use Rattle.sheet_reader.specs.sheet_text.Text.{before as Text·before, number as Text·number};
 ghost use Rattle.sheet_reader.specs.sheet_text.Told.{Reads, told_as};
 ghost use Rattle.sheet_reader.specs.sheet_format.Form.{draws as Form·draws};
 
-use sheet_reader::{Refusal, Text, heading, number_before};
+use sheet_reader::{Refusal, Text, before, heading, sheet_text_number as number};
 
 // As many draws as there are cells, one a line.
 fn draw_rows(cells: &mut [u64], text: &mut Text<'_>) -> Result<(), Refusal>
-    ensures { Reads (repeat (length cells.old) (λ left. before lf Text·number)) text.old (told_as (λ done. cells.new) result) text.new }
+    ensures { Reads (repeat (length cells.old) (λ left. Text·before lf Text·number)) text.old (told_as (λ done. cells.new) result) text.new }
 {
-    let n = cells.len();
-    for i in 0..n {
-        let v = number_before(text, b'\n')?;
-        cells[i] = v as u64;
+    for cell in cells.iter_mut() {
+        *cell = before(text, number, b'\n')? as u64;
     }
     Ok(())
 }

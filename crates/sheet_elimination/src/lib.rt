@@ -14,7 +14,7 @@ use listing_whole::put_listing;
 use listing_whole::routes::Routes;
 
 // Of the crates below, passed on to those above.
-pub use listing_whole::put_refusal;
+pub use listing_whole::{Refusal, put_refusal};
 
 // Eliminates and lists what is left, with the counts of the call before.
 pub fn list_eliminated(
@@ -35,9 +35,12 @@ pub fn list_eliminated(
     let e = eliminate(lengths, stops, work, cells, problem);
     match e {
         Ok(d) => {
-            let routes = Routes { lengths, stops };
-            put_listing(out, &routes, d.routes, counts, given, problem)
+            let routes = Routes {
+                lengths: &mut lengths[..d.routes],
+                stops,
+            };
+            put_listing(out, &routes, counts, given, problem)
         }
-        Err(refusal) => put_refusal(out, refusal.number() as u64),
+        Err(refusal) => put_refusal(out, refusal),
     }
 }

@@ -4,7 +4,7 @@
 ghost use Rattle.std.specs.Prelude.{◌≡◌};
 ghost use Rattle.std.specs.Fn.{FnOnceReturnsAtMut};
 ghost use Rattle.sheet_text.specs.Text.{before as Text·before};
-ghost use Rattle.sheet_text.specs.Text.{number as Text·number, signed as Text·signed, optional as Text·optional};
+ghost use Rattle.sheet_text.specs.Text.{signed as Text·signed, optional as Text·optional};
 ghost use Rattle.sheet_text.specs.Told.{Reads, told, given};
 
 use sheet_text::numbers::{is_end, number};
@@ -26,13 +26,6 @@ pub fn before<T: Copy, F: FnOnce(&mut Text<'_>) -> Result<T, Refusal>>(
     let v = read(text)?;
     byte(text, b)?;
     Ok(v)
-}
-
-// A number and the byte behind it.
-pub fn number_before(text: &mut Text<'_>, b: u8) -> Result<u32, Refusal>
-    ensures { Reads (Text·before b Text·number) text.old (told result) text.new }
-{
-    before(text, number, b)
 }
 
 // A number that may have a minus sign before it.

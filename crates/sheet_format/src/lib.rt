@@ -6,7 +6,5 @@ pub mod places;
 // Of the crates below, passed on to those above.
 pub use models::customer::TimeWindow;
 pub use models::vehicle::{Vehicle, VehicleBreak};
-pub use sheet_fields::{
-    Refusal, Text, before, byte, ending, number_before, sheet_text_number, signed,
-};
+pub use sheet_fields::{Refusal, Text, before, byte, ending, sheet_text_number, signed};
 pub use sheet_headings::heading;

@@ -34,7 +34,7 @@ pub fn heading(
     word(text, name)?;
     byte(text, b' ')?;
     let n = number(text)? as usize;
-    if n < least || n > most {
+    if !(least..=most).contains(&n) {
         return Err(refusal);
     }
     byte(text, b'\n')?;

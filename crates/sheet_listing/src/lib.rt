@@ -35,31 +35,10 @@ pub fn list_read(
     match sheet(
         lengths, stops, tape, demand, service, ready, due, penalty, flags, distances, times, text,
     ) {
-        Err(refusal) => put_refusal(out, refusal.number() as u64),
-        Ok((read, _)) => {
-            let asked = read.request;
-            list_parts(
-                out,
-                lengths,
-                stops,
-                work,
-                cells,
-                tape,
-                demand,
-                service,
-                ready,
-                due,
-                penalty,
-                flags,
-                distances,
-                times,
-                read.head,
-                asked.draws,
-                asked.given,
-                asked.used,
-                asked.limit,
-                asked.clock,
-            )
-        }
+        Err(refusal) => put_refusal(out, refusal),
+        Ok((read, _)) => list_parts(
+            out, lengths, stops, work, cells, tape, demand, service, ready, due, penalty, flags,
+            distances, times, read,
+        ),
     }
 }

@@ -9,10 +9,10 @@ ghost use Rattle.sheet_calls.specs.sheet_laws.Short.{Short};
 ghost use Rattle.sheet_calls.specs.sheet_answers.Printed.{planned};
 
 use sheet_calls::{Allowance, Customers, DistanceMatrix, Problem, list_planned};
-use sheet_whole::Head;
+use sheet_whole::parts::Sheet;
 
 // Of the crates below, passed on to those above.
-pub use sheet_calls::put_refusal;
+pub use sheet_calls::{Refusal, put_refusal};
 pub use sheet_whole::sheet::sheet as sheet_whole_sheet;
 
 // Plans what the slices hold of a sheet.
@@ -31,26 +31,23 @@ pub fn list_parts(
     flags: &[u8],
     distances: &[f64],
     times: &[f64],
-    head: Head,
-    draws: usize,
-    given: usize,
-    used: usize,
-    limit: usize,
-    clock: u64,
+    read: Sheet,
 ) -> usize
     requires in_bounds { (6000 ≤ length out.old) × (length work.old ≡ 8192) × (length cells.old ≡ 2048) }
     requires in_bounds_2 { (64 ≤ length lengths.old) × (64 ≤ length stops.old) × (1024 ≤ length tape.now) }
     requires column_room { ColumnRoom 64 (columns_of demand.now service.now ready.now due.now penalty.now flags.now) }
     requires in_bounds_3 { (4096 ≤ length distances.now) × (4096 ≤ length times.now) }
-    requires n_bound { (head.n ≤ 64) × (head.timed ≤ head.n) × (draws ≤ 1024) × (given ≤ 64) × (used ≤ 64) }
-    requires short { Short head.n (take (head.n * head.n) distances.now) }
+    requires n_bound { (read.head.n ≤ 64) × (read.head.timed ≤ read.head.n) × (read.request.draws ≤ 1024) × (read.request.given ≤ 64)
+        × (read.request.used ≤ 64) }
+    requires short { Short read.head.n (take (read.head.n * read.head.n) distances.now) }
     ensures { Written out.old 0 (planned
         (sheet_in lengths.old stops.old tape.now (columns_of demand.now service.now ready.now due.now penalty.now flags.now) distances.now times.now
-        head draws given used limit clock)) out.new result }
+        read.head read.request.draws read.request.given read.request.used read.request.limit read.request.clock)) out.new result }
 {
-    let n = head.n;
-    let timed = head.timed;
-    let vehicle = head.vehicle;
+    let n = read.head.n;
+    let timed = read.head.timed;
+    let vehicle = read.head.vehicle;
+    let asked = read.request;
     let m = n * n;
     let t = timed * timed;
     let places = Customers {
@@ -73,14 +70,14 @@ pub fn list_parts(
     };
     list_planned(
         out,
-        &mut lengths[..given],
-        &mut stops[..used],
+        &mut lengths[..asked.given],
+        &mut stops[..asked.used],
         work,
         cells,
         Allowance {
-            tape: &tape[..draws],
-            limit: limit as u64,
-            clock,
+            tape: &tape[..asked.draws],
+            limit: asked.limit,
+            clock: asked.clock,
         },
         &problem,
     )

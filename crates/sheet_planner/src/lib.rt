@@ -6,27 +6,42 @@ ghost use Rattle.sheet_listing.specs.listing.Written.{Written};
 ghost use Rattle.sheet_listing.specs.sheet_answers.Printed.{printed};
 ghost use Rattle.sheet_planner.specs.Output.{output, into};
 
+use room::zeros;
 use sheet_listing::list_read;
-use sheet_room::{f64s_64, f64s_2048, f64s_4096, i32s_64, u8s_64, u16s_64, u16s_8192, u64s_1024};
+
+// The most places, the most routes and the most stops of a sheet.
+const MOST: usize = 64;
+
+// The cells of a matrix over so many places.
+const SQUARE: usize = 4096;
+
+// The most draws.
+const DRAWS: usize = 1024;
+
+// The u16 work cells: the least that row 9 leaves.
+const WORK: usize = 8192;
+
+// The f64 work cells: the least that row 9 leaves.
+const FLOAT_WORK: usize = 2048;
 
 // Prints what a text prints.
 fn listed(out: &mut [u8], text: &[u8]) -> usize
     requires { 6000 ≤ length out.old }
     ensures { Written out.old 0 (printed text.now) out.new result }
 {
-    let mut lengths = u16s_64();
-    let mut stops = u16s_64();
-    let mut work = u16s_8192();
-    let mut cells = f64s_2048();
-    let mut tape = u64s_1024();
-    let mut demand = i32s_64();
-    let mut service = f64s_64();
-    let mut ready = f64s_64();
-    let mut due = f64s_64();
-    let mut penalty = f64s_64();
-    let mut flags = u8s_64();
-    let mut distances = f64s_4096();
-    let mut times = f64s_4096();
+    let mut lengths: [u16; MOST] = zeros();
+    let mut stops: [u16; MOST] = zeros();
+    let mut work: [u16; WORK] = zeros();
+    let mut cells: [f64; FLOAT_WORK] = zeros();
+    let mut tape: [u64; DRAWS] = zeros();
+    let mut demand: [i32; MOST] = zeros();
+    let mut service: [f64; MOST] = zeros();
+    let mut ready: [f64; MOST] = zeros();
+    let mut due: [f64; MOST] = zeros();
+    let mut penalty: [f64; MOST] = zeros();
+    let mut flags: [u8; MOST] = zeros();
+    let mut distances: [f64; SQUARE] = zeros();
+    let mut times: [f64; SQUARE] = zeros();
     list_read(
         out,
         &mut lengths,

@@ -1,7 +1,7 @@
 // Writes what a text prints to standard output, for the programs over sheets.
 #![tactic(auto)]
 
-ghost use Rattle.std.specs.Prelude.{◌≡◌, length};
+ghost use Rattle.std.specs.Prelude.{◌≡◌};
 ghost use Rattle.sheet_listing.specs.sheet_answers.Printed.{printed};
 ghost use Rattle.sheet_planner.specs.Output.{into};
 
@@ -10,12 +10,8 @@ use sheet_planner::plan_sheet;
 // The handle of standard output.
 pub const STDOUT: i32 = 1;
 
-// Room for what is printed.
-pub fn listing_room() -> [u8; 6000]
-    ensures { 6000 ≡ length result }
-{
-    [0; 6000]
-}
+// Room for what is printed: no text prints more.
+pub const LISTING_ROOM: usize = 6000;
 
 // Writes what a text prints: its listing, or the line of its refusal. It is proved that this stands in the slice, and not that standard output gets it.
 pub fn print_sheet(out: &mut [u8], text: &[u8])

@@ -5,6 +5,4 @@ pub mod places;
 pub mod rows;
 
 // Of the crates below, passed on to those above.
-pub use sheet_cells::{
-    Refusal, Text, byte, ending, heading, number_before, sheet_text_number, stop_cell,
-};
+pub use sheet_cells::{Refusal, Text, before, byte, ending, heading, sheet_text_number, stop_cell};

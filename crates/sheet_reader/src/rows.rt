@@ -3,7 +3,7 @@ ghost use Rattle.std.specs.Prelude.{◌≡◌, ◌<◌, ◌^◌, ℕ, length, ma
 ghost use Rattle.sheet_cells.specs.sheet_text.Text.{line};
 ghost use Rattle.sheet_cells.specs.sheet_text.Told.{Reads, told_as, seen};
 
-use sheet_cells::{Refusal, Text, ending, number_before};
+use sheet_cells::{Refusal, Text, before, ending, sheet_text_number as number};
 
 // The numbers that end a line, one for each cell, which holds what is made of it.
 pub fn number_row<T: Copy, F: Fn(u32) -> T>(
@@ -17,7 +17,7 @@ pub fn number_row<T: Copy, F: Fn(u32) -> T>(
 {
     let k = cells.len();
     for i in 0..k {
-        let v = number_before(text, ending(k - (i + 1)))?;
+        let v = before(text, number, ending(k - (i + 1)))?;
         cells[i] = cell(v);
     }
     Ok(())

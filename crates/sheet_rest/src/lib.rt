@@ -5,16 +5,18 @@ ghost use Rattle.std.specs.Prelude.{◌≡◌};
 ghost use Rattle.sheet_format.specs.sheet_text.Told.{Reads, told};
 ghost use Rattle.sheet_format.specs.Form.{rest_line, break, with_rest};
 
-use sheet_format::{Refusal, Text, Vehicle, VehicleBreak, heading, number_before};
+use sheet_format::{
+    Refusal, Text, Vehicle, VehicleBreak, before, heading, sheet_text_number as number,
+};
 
 // The break's line.
 #[tactic(auto, using(crate::proofs::Readers::readers), unfolding(sheet_format::specs::Form::rest_line))]
 fn rest_line(text: &mut Text<'_>) -> Result<Option<VehicleBreak>, Refusal>
     ensures { Reads rest_line text.old (told result) text.new }
 {
-    let earliest = number_before(text, b' ')?;
-    let latest = number_before(text, b' ')?;
-    let duration = number_before(text, b'\n')?;
+    let earliest = before(text, number, b' ')?;
+    let latest = before(text, number, b' ')?;
+    let duration = before(text, number, b'\n')?;
     Ok(Some(VehicleBreak {
         earliest: earliest as f64,
         latest: latest as f64,

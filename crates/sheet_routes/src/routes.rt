@@ -1,8 +1,8 @@
 // The section of the routes.
-ghost use Rattle.std.specs.Prelude.{◌≡◌, ◌+◌, ◌-◌, ◌≤◌, length, take, IfOk};
+ghost use Rattle.std.specs.Prelude.{◌≡◌, ◌≤◌, length, take, IfOk};
 ghost use Rattle.sheet_reader.specs.sheet_text.Told.{Reads, told_as, seen};
 ghost use Rattle.sheet_reader.specs.sheet_format.Form.{route_line, route_lines, routes as Form·routes, slices_of};
-ghost use Rattle.sheet_routes.specs.Routes.{route_behind, plan_in};
+ghost use Rattle.sheet_routes.specs.Routes.{route_cells, plan_in};
 
 use sheet_reader::rows::number_row;
 use sheet_reader::{Refusal, Text, byte, ending, heading, sheet_text_number as number, stop_cell};
@@ -14,19 +14,16 @@ pub struct PlanSize {
     pub used: usize,
 }
 
-// A route's line: its stops into the cells behind those that are used. Row 12 is judged as soon as its length is read.
-fn route_row(stops: &mut [u16], used: usize, text: &mut Text<'_>) -> Result<usize, Refusal>
-    requires used_bound { used ≤ 64 }
-    requires in_bounds { 64 ≤ length stops.old }
-    ensures { Reads (seen (route_behind used stops.old) (route_line (64 - used))) text.old (told_as (λ k. (k, take (used + k) stops.new)) result)
-        text.new }
+// A route's line: its stops into the first cells. Row 12 is judged as soon as its length is read.
+fn route_row(stops: &mut [u16], text: &mut Text<'_>) -> Result<usize, Refusal>
+    ensures { Reads (seen route_cells (route_line (length stops.old))) text.old (told_as (λ k. (k, take k stops.new)) result) text.new }
 {
     let k = number(text)? as usize;
-    if k > 64 - used {
+    if k > stops.len() {
         return Err(Refusal::SheetSizes);
     }
     byte(text, ending(k))?;
-    number_row(&mut stops[used..used + k], text, stop_cell)?;
+    number_row(&mut stops[..k], text, stop_cell)?;
     Ok(k)
 }
 
@@ -44,7 +41,7 @@ fn route_rows(
 {
     let mut used: usize = 0;
     for r in 0..n {
-        let k = route_row(stops, used, text)?;
+        let k = route_row(&mut stops[used..64], text)?;
         lengths[r] = k as u16;
         used += k;
     }

@@ -7,12 +7,12 @@ ghost use Rattle.sheet_format.specs.Form.{run_line, last_run};
 ghost use Rattle.sheet_format.specs.Form.{run as Form·run};
 ghost use Rattle.sheet_run.specs.Run.{run_of};
 
-use sheet_format::{Refusal, Text, heading, number_before};
+use sheet_format::{Refusal, Text, before, heading, sheet_text_number as number};
 
 // M, the step limit, and K, the clock.
 #[derive(Clone, Copy)]
 pub struct RunLine {
-    pub limit: usize,
+    pub limit: u64,
     pub clock: u64,
 }
 
@@ -21,10 +21,10 @@ pub struct RunLine {
 fn run_line(text: &mut Text<'_>) -> Result<RunLine, Refusal>
     ensures { Reads run_line text.old (told_as run_of result) text.new }
 {
-    let m = number_before(text, b' ')?;
-    let k = number_before(text, b'\n')?;
+    let m = before(text, number, b' ')?;
+    let k = before(text, number, b'\n')?;
     Ok(RunLine {
-        limit: m as usize,
+        limit: m as u64,
         clock: k as u64,
     })
 }

@@ -7,7 +7,7 @@ pub struct Request {
     pub draws: usize,
     pub given: usize,
     pub used: usize,
-    pub limit: usize,
+    pub limit: u64,
     pub clock: u64,
 }
 

@@ -11,7 +11,7 @@ use length_checks::Vehicle;
 
 // Of the crates below, passed on to those above.
 pub use length_checks::{
-    Refusal, RouteEval, bad_lengths, break_schedule_schedule, evaluation_check,
+    Refusal, RouteEval, Work, bad_lengths, break_schedule_schedule, evaluation_check,
     route_cost_gain_floor, route_cost_route_distance,
 };
 
@@ -48,8 +48,8 @@ pub fn stops_pass(n: usize, vehicle: Vehicle, stops: &[u16]) -> bool
     ensures { result ≡ stops_pass (of_distances n [] vehicle) stops.now }
 {
     let mut seen = [false; 256];
-    for i in 0..stops.len() {
-        if !stop_passes(&mut seen, n, vehicle, &stops[..i], stops[i]) {
+    for (i, c) in stops.iter().enumerate() {
+        if !stop_passes(&mut seen, n, vehicle, &stops[..i], *c) {
             return false;
         }
     }

@@ -1,55 +1,26 @@
 -- The check of a route of a plan in two slices, and two stops exchanged in it: laws from the facts that the code has where it needs them.
 -- Assumes nothing.
-use Prim.Native.Nat.{ℕ, ◌+◌, ◌*◌, ◌-◌, ◌≤◌, ◌<◌}
+use Prim.Native.Nat.{ℕ, ◌<◌}
 use native.Mathlib.Omega.{arith}
 use mathlib.Core.Path.{◌≡◌, refl, sym, ap, ◌∙◌}
 use mathlib.Core.Bool.{Bool, true, false, ◌&&◌}
 use mathlib.Core.List.{List, []}
-use lib.ListN.{length, get_or, take, drop}
-use lib.IntN.{ℤ}
-use mir.Syntax.{w64}
-use mir.Val.{Fits}
-use Rattle.perturbation.specs.models.declared.vehicle.Vehicle.{Vehicle}
+use lib.ListN.{length}
 use Rattle.perturbation.specs.models.Problem.{Problem, of_demand, Stops, problem_of}
 use Rattle.exchanged_stops.specs.laws.All.{all_get}
-use Rattle.exchanged_stops.specs.plan.Plan.{Plan, HasStop, route, total, offset, exchange_stops}
-use Rattle.exchanged_stops.specs.plan.Slices.{length_split, route_within, route_part, stop_route}
-use Rattle.exchanged_stops.specs.plan.Given.{plan_of, Becomes}
+use Rattle.exchanged_stops.specs.plan.Plan.{Plan, HasStop, route, total, exchange_stops}
+use Rattle.exchanged_stops.specs.plan.Slices.{length_split, stop_route}
+use Rattle.exchanged_stops.specs.plan.Given.{plan_of, Becomes, keeps_on}
 use Rattle.exchanged_stops.specs.PlanRoutes.{Routes}
 use Rattle.exchanged_stops.specs.PlanExchanges.{occurs_exchange_stops, number_exchange_stops, first_stop_still, second_stop_still, exchange_stops_twice}
 use Rattle.perturbation.specs.route_load.Feasible.{load, fits, checked, feasible}
 use Rattle.perturbation.specs.local_search.Planned.{Planned, planned_stops, planned_as}
 use Rattle.perturbation.specs.Perturb.{stands, try_exchange}
 
--- ---- route k, which begins at `at`
+-- ---- route k, as it is lent
 
-module _ (n : ℕ) (r : Routes) (k at : ℕ) (h : k < length r.lengths.now) (e : at ≡ offset r.lengths.now k) (p : Planned n (plan_of r)) where
-  part_is : take (at + get_or r.lengths.now k 0 - at) (drop at r.stops.now) ≡ route k (plan_of r)
-  part_is = route_part r.lengths.now r.stops.now k at (at + get_or r.lengths.now k 0) e refl
-
-  pub route_end : at + get_or r.lengths.now k 0 ≤ length r.stops.now
-  route_end = omega (arith, e, r.lent.inside, route_within r.lengths.now k h)
-
-  pub route_end_fits : Fits w64 (at + get_or r.lengths.now k 0)
-  route_end_fits = record { fits = omega (arith, route_end, r.lent.few) }
-
-  pub route_doubled : Fits w64 (at * 2)
-  route_doubled = record { fits = omega (arith, route_end, r.lent.few) }
-
-  pub route_stops : Stops n (take (at + get_or r.lengths.now k 0 - at) (drop at r.stops.now))
-  route_stops = rw part_is (all_get k [] (planned_stops n (plan_of r) p) (rw (length_split r.lengths.now r.stops.now) h))
-
-  pub route_fits : (demand : List ℤ) (vehicle : Vehicle) (v : Bool)
-      → v ≡ fits (of_demand demand vehicle) (load demand (take (at + get_or r.lengths.now k 0 - at) (drop at r.stops.now)))
-      → v ≡ fits (of_demand demand vehicle) (load demand (route k (plan_of r)))
-  route_fits demand vehicle v f =
-      f ∙ ap (λ (r : List ℕ). fits (of_demand demand vehicle) (load demand r)) part_is
-
-  pub route_checked : (p : Problem) (v : Bool) → v ≡ checked p (take (at + get_or r.lengths.now k 0 - at) (drop at r.stops.now))
-      → v ≡ checked p (route k (plan_of r))
-  route_checked p v f = f ∙ ap (λ (r : List ℕ). checked p r) part_is
-
-pub ruleset route_laws = (route_end, route_end_fits, route_doubled, route_stops, route_fits, route_checked)
+pub route_stops : (n : ℕ) (r : Routes) (k : ℕ) {t : List ℕ} → k < length r.lengths.now → Planned n (plan_of r) → t ≡ route k (plan_of r) → Stops n t
+route_stops n r k h p e = rw e (all_get k [] (planned_stops n (plan_of r) p) (rw (length_split r.lengths.now r.stops.now) h))
 
 -- ---- two routes stand where both loads are within capacity and both pass the check
 
@@ -57,28 +28,28 @@ and_last : (x y z : Bool) → y ≡ false → (x && (y && z)) ≡ false
 and_last true y z e = rw e
 and_last false y z e = refl
 
-module _ (p : Problem) (a b : ℕ) (plan : Plan)
-    (v : Bool) (ev : v ≡ fits (of_demand p.demand p.vehicle) (load p.demand (route a plan))) where
+module _ (p : Problem) (a b : ℕ) (plan : Plan) {one other : List ℕ} (ea : one ≡ route a plan) (eb : other ≡ route b plan)
+    (v : Bool) (ev : v ≡ fits (of_demand p.demand p.vehicle) (load p.demand one)) where
   abbrev unladen : Problem
   unladen = problem_of [] p.places p.roads p.vehicle
 
-  pub first_heavy : v ≡ false → false ≡ stands p a b plan
+  pub first_heavy : v ≡ false → v ≡ stands p a b plan
   unfolding feasible
-  first_heavy f = rw (← ev, f)
+  first_heavy f = f ∙ rw (← ea, ← ev, f)
 
-  module _ (h : v ≡ true) (w : Bool) (ew : w ≡ fits (of_demand p.demand p.vehicle) (load p.demand (route b plan))) where
-    pub second_heavy : w ≡ false → false ≡ stands p a b plan
+  module _ (h : v ≡ true) (w : Bool) (ew : w ≡ fits (of_demand p.demand p.vehicle) (load p.demand other)) where
+    pub second_heavy : w ≡ false → w ≡ stands p a b plan
     unfolding feasible
-    second_heavy f = sym (and_last (feasible p (route a plan)) (fits p (load p.demand (route b plan))) (checked p (route b plan)) (sym ew ∙ f))
+    second_heavy f = f ∙ rw (← eb) (sym (and_last (feasible p (route a plan)) (fits p (load p.demand other)) (checked p other) (sym ew ∙ f)))
 
-    module _ (k : w ≡ true) (x : Bool) (ex : x ≡ checked unladen (route a plan)) where
-      pub first_fails : x ≡ false → false ≡ stands p a b plan
+    module _ (k : w ≡ true) (x : Bool) (ex : x ≡ checked unladen one) where
+      pub first_fails : x ≡ false → x ≡ stands p a b plan
       unfolding feasible
-      first_fails f = rw (← ev, h, ← ex, f)
+      first_fails f = f ∙ rw (← ea, ← ev, h, ← ex, f)
 
-      pub second_decides : x ≡ true → (y : Bool) → y ≡ checked unladen (route b plan) → y ≡ stands p a b plan
+      pub second_decides : x ≡ true → (y : Bool) → y ≡ checked unladen other → y ≡ stands p a b plan
       unfolding feasible
-      second_decides f y ey = rw (← ev, h, ← ex, f, ← ew, k, ← ey)
+      second_decides f y ey = rw (← ea, ← eb, ← ev, h, ← ex, f, ← ew, k, ← ey)
 
 pub ruleset stands_laws = (first_heavy, second_heavy, first_fails, second_decides)
 
@@ -118,13 +89,7 @@ module _ (n : ℕ) (old mid : Routes) (a i b j : ℕ) (e : Becomes old (exchange
           routes = u.routes ∙ ap (exchange_stops a i b j) e.routes ∙ exchange_stops_twice a i b j (plan_of old) d f.there g.there f.within g.within
               ∙ rw (← e.routes, ← ev, t);
           sum = u.sum ∙ e.sum;
-          kept =
-              record {
-                same_lengths = u.kept.same_lengths ∙ e.kept.same_lengths;
-                same_stops = u.kept.same_stops ∙ e.kept.same_stops;
-                count = u.kept.count ∙ e.kept.count;
-                room = u.kept.room ∙ e.kept.room;
-              };
+          kept = keeps_on e.kept u.kept;
         }
 
 pub ruleset exchanged_laws = (exchanged_first_in, exchanged_second_in, exchanged_planned, exchanged_first, exchanged_second, exchange_stays, exchange_undone)

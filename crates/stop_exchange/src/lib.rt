@@ -17,7 +17,7 @@ pub mod check;
 // Of the crates below, passed on to those above.
 pub use exchanged_stops::{copy_part, routes};
 pub use perturbation::draws::{Draws, other_than};
-pub use perturbation::{Demand, Instance, Vehicle, eject, feasible, within_capacity};
+pub use perturbation::{Demand, Instance, Sought, Vehicle, eject, feasible, within_capacity};
 
 // The stop at one position and the stop at another one, of another route, are exchanged; and exchanged back where one of the routes is not feasible then.
 #[tactic(auto, using(crate::proofs::ExchangeLaws::exchanged_laws))]
@@ -30,8 +30,7 @@ pub fn try_exchange(routes: &mut Routes, a: Position, b: Position, given: &Insta
         routes.new }
 {
     exchange_stops(routes, a, b);
-    if both_feasible(routes, a.route, b.route, given) {
-        return;
+    if !both_feasible(routes, a.route, b.route, given) {
+        exchange_stops(routes, a, b); // back
     }
-    exchange_stops(routes, a, b); // back
 }

@@ -16,7 +16,7 @@ use reinsertion::routes::Routes;
 pub use elimination_moves::take_largest;
 pub use reinsertion::{
     Counts, Demand, Instance, LocalSearchNext, Move, Pick, Problem, Reduction, Vehicle, is_finite,
-    next_pick, route_cost_gain_floor, routes, worth,
+    pick_after, route_cost_gain_floor, routes, worth,
 };
 
 // The stop goes to its place. What was then added to the worth of the other routes; none where it has no place, and the plan is as it was.

@@ -65,11 +65,7 @@ impl<'a> Numbers<'a> {
     pub fn at_most(&mut self, most: u64) -> Option<u64>
         ensures { IfSome result (λ number. number ≤ most) }
     {
-        let number = self.next()?;
-        if number > most {
-            return None;
-        }
-        Some(number)
+        self.next().filter(|number| *number <= most)
     }
 
     // The value that the next number stands for.

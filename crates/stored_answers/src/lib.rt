@@ -61,32 +61,21 @@ pub fn of_number(answer: Result<f64, Refusal>) -> Stored
 }
 
 // An evaluation with a break or without.
-fn of_route(worth: RouteEval, rest: Option<(usize, f64)>) -> Stored
-    ensures { result ≡ route_stored worth rest }
+fn of_route(worth: RouteEval) -> Stored
+    ensures { result ≡ route_stored worth worth.rest }
 {
-    let distance = bits_of(worth.distance);
-    let duration = bits_of(worth.duration);
-    let lateness = bits_of(worth.lateness);
-    let cost = bits_of(worth.lateness_cost);
-    match rest {
-        None => Stored {
-            tag: 2,
-            a: distance,
-            b: duration,
-            c: lateness,
-            d: cost,
-            e: 0,
-            f: 0,
-        },
-        Some((stop, start)) => Stored {
-            tag: 3,
-            a: distance,
-            b: duration,
-            c: lateness,
-            d: cost,
-            e: stop as u64,
-            f: bits_of(start),
-        },
+    let (tag, stop, start) = match worth.rest {
+        None => (2, 0, 0),
+        Some((stop, start)) => (3, stop as u64, bits_of(start)),
+    };
+    Stored {
+        tag,
+        a: bits_of(worth.distance),
+        b: bits_of(worth.duration),
+        c: bits_of(worth.lateness),
+        d: bits_of(worth.lateness_cost),
+        e: stop,
+        f: start,
     }
 }
 
@@ -95,7 +84,7 @@ fn of_eval(eval: Option<RouteEval>) -> Stored
 {
     match eval {
         None => short(1, 0, 0, 0),
-        Some(worth) => of_route(worth, worth.rest),
+        Some(worth) => of_route(worth),
     }
 }
 

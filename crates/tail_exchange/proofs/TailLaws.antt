@@ -6,7 +6,7 @@ use mathlib.Core.List.{◌++◌}
 use lib.ListN.{take, drop}
 use Rattle.joined_tails.specs.models.Problem.{Problem, of_demand}
 use Rattle.route_exchange.specs.plan.Plan.{Plan, HasPosition, route, total, non_empty, exchange_tails}
-use Rattle.route_exchange.specs.plan.Given.{plan_of, Becomes}
+use Rattle.route_exchange.specs.plan.Given.{plan_of, Becomes, becomes_same}
 use Rattle.route_exchange.specs.plan.declared.routes.Routes.{Routes}
 use Rattle.route_exchange.specs.PlanExchanges.{first_exchange_tails, second_exchange_tails}
 use Rattle.joined_tails.specs.route_load.Feasible.{load, fits, feasible}
@@ -36,13 +36,13 @@ module _ (p : Problem) (a i b j : ℕ) (plan : Plan)
   abbrev both_stand : Bool
   both_stand = joined_stands whole_problem a i b j plan && joined_stands whole_problem b j a i plan
 
-  pub joined_heavy : v ≡ false → false ≡ both_stand
+  pub joined_heavy : v ≡ false → v ≡ both_stand
   unfolding joined_stands feasible
-  joined_heavy f = sym (heavy_first (non_empty (joined a i b j plan)) _ _ _ (sym ev ∙ f))
+  joined_heavy f = f ∙ sym (heavy_first (non_empty (joined a i b j plan)) _ _ _ (sym ev ∙ f))
 
   module _ (w : Bool) (ew : w ≡ joined_stands whole_problem b j a i plan) where
-    pub joined_falls : w ≡ false → false ≡ both_stand
-    joined_falls f = sym (ap (λ (t : Bool). joined_stands whole_problem a i b j plan && t) (sym ew ∙ f) ∙ and_false (joined_stands whole_problem a i b j plan))
+    pub joined_falls : w ≡ false → w ≡ both_stand
+    joined_falls f = f ∙ sym (ap (λ (t : Bool). joined_stands whole_problem a i b j plan && t) (sym ew ∙ f) ∙ and_false (joined_stands whole_problem a i b j plan))
 
     pub joined_decides : w ≡ true → (x : Bool) → x ≡ joined_stands whole_problem a i b j plan → x ≡ both_stand
     joined_decides f x ex = ex ∙ sym (ap (λ (t : Bool). joined_stands whole_problem a i b j plan && t) (sym ew ∙ f) ∙ and_true (joined_stands whole_problem a i b j plan))
@@ -76,6 +76,6 @@ module _ (p : Problem) (old : Routes) (a i b j : ℕ) (d : a ≡ b → ⊥) (f :
 
   pub tails_left : v ≡ false → Becomes old (try_tails p a i b j (plan_of old)) (total old.lengths.now) old
   tails_left t =
-      rw (by_joined, t) (record { routes = refl; sum = refl; kept = record { same_lengths = refl; same_stops = refl; count = refl; room = refl } })
+      rw (by_joined, t) (becomes_same old)
 
 pub ruleset tails_laws = (tails_made, tails_left)

@@ -14,7 +14,9 @@ use joined_tails::{joined_stands, joined_within};
 use route_exchange::exchange_tails;
 
 // Of the crates below, passed on to those above.
-pub use joined_tails::{Demand, Draws, Instance, Vehicle, eject, other_than, routes, try_exchange};
+pub use joined_tails::{
+    Demand, Draws, Instance, Sought, Vehicle, eject, other_than, routes, try_exchange,
+};
 
 // Whether both routes stand after the tails from two positions are exchanged: a check is made only where both loads are within capacity.
 #[tactic(auto, using(crate::proofs::TailLaws::both_laws))]
@@ -33,13 +35,9 @@ fn both_joined(
     ensures { result ≡ (joined_stands (of_instance given.now) a.route a.pos b.route b.pos (plan_of routes.now)
         && joined_stands (of_instance given.now) b.route b.pos a.route a.pos (plan_of routes.now)) }
 {
-    if joined_within(routes, work, a, b, given.fleet.vehicle, &given.demand) {
-        if joined_stands(routes, work, b, a, given) {
-            return joined_stands(routes, work, a, b, given);
-        }
-        return false; // b does not stand
-    }
-    false
+    joined_within(routes, work, a, b, given.fleet.vehicle, &given.demand)
+        && joined_stands(routes, work, b, a, given)
+        && joined_stands(routes, work, a, b, given)
 }
 
 // The tails of two routes from a position each, the routes not the same, are exchanged where both routes stand then. The work cells are free.

@@ -3,7 +3,7 @@
 
 ghost use Rattle.std.specs.Prelude.{◌≡◌, Some};
 ghost use Rattle.stored_values.specs.Kinds.{number_of};
-ghost use Rattle.tally.specs.Tally.{one_more, none_counted, counted, no_calls, noted};
+ghost use Rattle.tally.specs.Tally.{one_more, counted, no_calls, noted};
 ghost use Rattle.tally.specs.Printed.{kind_line, printed};
 
 use std::fmt;
@@ -30,7 +30,7 @@ impl fmt::Write for Stdout {
 }
 
 // Calls counted by their kinds, and all of them.
-#[derive(Clone, Copy)]
+#[derive(Clone, Copy, Default)]
 pub struct Calls {
     by_kind: [u64; 10],
     all: u64,
@@ -51,15 +51,6 @@ fn more(count: u64) -> u64
 }
 
 impl Calls {
-    fn none() -> Calls
-        ensures { result ≡ none_counted }
-    {
-        Calls {
-            by_kind: [0; 10],
-            all: 0,
-        }
-    }
-
     // Counts a call of a kind.
     fn count(&mut self, kind: Kind)
         ensures { self.new ≡ counted (number_of kind) self.old }
@@ -76,8 +67,8 @@ impl Tally {
         ensures { result ≡ no_calls }
     {
         Tally {
-            asked: Calls::none(),
-            agreed: Calls::none(),
+            asked: Calls::default(),
+            agreed: Calls::default(),
         }
     }
 

@@ -1,7 +1,7 @@
 // The route check on a trial route: a route with one stop put in. No copy is made: the walk goes over the front part, the stop, then the tail.
 #![tactic(auto)]
 
-ghost use Rattle.std.specs.Prelude.{◌≡◌, ◌<◌, ◌≤◌, ◌+◌, length, take, drop};
+ghost use Rattle.std.specs.Prelude.{◌≡◌, ◌<◌, ◌≤◌, length};
 ghost use Rattle.route_checks.specs.laws.Edits.{insert_at};
 ghost use Rattle.route_checks.specs.models.Problem.{Stops};
 ghost use Rattle.route_checks.specs.break_clock.Schedule.{ride_all, set_out as ride-out};
@@ -18,62 +18,15 @@ pub use route_checks::{
     total_less, travel_time, window_at,
 };
 
-// The walk of the route check over the front part of a route, up to position pos.
-fn reach_front(route: &[u16], pos: usize, depot: usize, net: &Network) -> Option<Way>
-    requires { (depot < net.now.roads.size) × (pos ≤ length route.now) × Stops net.now.roads.size route.now }
-    ensures { result ≡ reach_all net.now.places net.now.roads (take pos route.now) (set_out depot) }
-{
-    reach_all(Way::new(depot), &route[..pos], net)
-}
-
-// The walk of the route check over the tail of a route, from position pos on.
-fn reach_tail(way: Way, route: &[u16], pos: usize, net: &Network) -> Option<Way>
-    requires { (way.prev < net.now.roads.size) × (pos ≤ length route.now) × Stops net.now.roads.size route.now }
-    ensures { result ≡ reach_all net.now.places net.now.roads (drop pos route.now) way }
-{
-    reach_all(
-        way,
-        &route[pos..], // the stops that c is put in before
-        net,
-    )
-}
-
 // The walk of the route check over the route with c put in before position pos.
 fn trial_reached(route: &[u16], pos: usize, c: usize, depot: usize, net: &Network) -> Option<Way>
     requires { (depot < net.now.roads.size) × (c < net.now.roads.size) × (pos ≤ length route.now) × Stops net.now.roads.size route.now }
     ensures { result ≡ reach_all net.now.places net.now.roads (insert_at pos c route.now) (set_out depot) }
 {
-    let before = reach_front(route, pos, depot, net)?;
+    let (front, tail) = route.split_at(pos);
+    let before = reach_all(Way::new(depot), front, net)?;
     let after = reach(before, c, net)?;
-    reach_tail(after, route, pos, net)
-}
-
-// The walk of the clock over the front part of a route, up to position pos.
-fn ride_front(
-    route: &[u16],
-    pos: usize,
-    depot: usize,
-    rest: VehicleBreak,
-    net: &Network,
-) -> Option<Riding>
-    requires { (depot < net.now.roads.size) × (pos ≤ length route.now) × Stops net.now.roads.size route.now }
-    ensures { result ≡ ride_all net.now.places net.now.roads rest (take pos route.now) (ride-out depot) }
-{
-    ride_all(Riding::new(depot), rest, &route[..pos], net)
-}
-
-// The walk of the clock over the tail of a route, from position pos on.
-fn ride_tail(
-    way: Riding,
-    route: &[u16],
-    pos: usize,
-    rest: VehicleBreak,
-    net: &Network,
-) -> Option<Riding>
-    requires { (way.clock.prev < net.now.roads.size) × (pos ≤ length route.now) × Stops net.now.roads.size route.now × (way.clock.index ≡ pos + 1) }
-    ensures { result ≡ ride_all net.now.places net.now.roads rest (drop pos route.now) way }
-{
-    ride_all(way, rest, &route[pos..], net)
+    reach_all(after, tail, net)
 }
 
 // The walk of the clock over the route with c put in before position pos. The drive to c is a walk over a slice of one stop:
@@ -89,10 +42,11 @@ fn trial_ridden(
     requires { (depot < net.now.roads.size) × (c < net.now.roads.size) × (pos ≤ length route.now) × Stops net.now.roads.size route.now }
     ensures { result ≡ ride_all net.now.places net.now.roads rest (insert_at pos c route.now) (ride-out depot) }
 {
-    let before = ride_front(route, pos, depot, rest, net)?;
+    let (front, tail) = route.split_at(pos);
+    let before = ride_all(Riding::new(depot), rest, front, net)?;
     let one = [c as u16];
     let after = ride_all(before, rest, &one, net)?;
-    ride_tail(after, route, pos, rest, net)
+    ride_all(after, rest, tail, net)
 }
 
 // Whether the route passes once c is put in before position pos.
@@ -108,14 +62,12 @@ pub fn trial_feasible(
     ensures { result ≡ route_feasible net.now.places net.now.roads depot limits (insert_at pos c route.now) }
 {
     let Some(rest) = limits.rest else {
-        let walked = trial_reached(route, pos, c, depot, net);
-        let Some(way) = walked else {
+        let Some(way) = trial_reached(route, pos, c, depot, net) else {
             return false;
         };
         return home_allowed(way, depot, limits, &net.roads);
     };
-    let ridden = trial_ridden(route, pos, c, depot, rest, net);
-    let Some(at) = ridden else {
+    let Some(at) = trial_ridden(route, pos, c, depot, rest, net) else {
         return false;
     };
     let e = ride_home(at, rest, depot, &net.roads);

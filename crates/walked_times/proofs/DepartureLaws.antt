@@ -1,21 +1,16 @@
 -- Laws of the definitions of `quick_test` (specs/Quick) on departures, each from the facts that the code has where it needs it. Assumes nothing.
 use Rattle.std.specs.Prelude.{Option, Some, None}
-use Prim.Native.Nat.{ℕ, ◌+◌, ◌*◌, ◌^◌, ◌<◌, ◌≤◌}
-use native.Mathlib.Nat.{le_antisymm}
+use Prim.Native.Nat.{ℕ, ◌+◌, ◌<◌}
 use native.Mathlib.Numerals.{add-one}
 use native.Mathlib.Omega.{arith}
 use mathlib.Core.Path.{◌≡◌, refl, sym, ap, ◌∙◌}
 use mathlib.Core.List.{List, [], ◌∷◌, ◌++◌, append_assoc, append-nil}
-use lib.ListN.{length, get_or, take, drop, set, length-set, drop_of_length-le}
+use lib.ListN.{length, get_or, take, drop, set, drop_of_length-le}
 use lib.Seq.{drop-cons, take-suc-set}
 use lib.Ieee.{Float}
-use mir.Syntax.{w64}
-use mir.Val.{Fits}
-use borrow.Author.Rules.{scaled_Fits}
 use Rattle.latest_times.specs.floats.Binary64.{0f}
 use Rattle.latest_times.specs.models.Customer.{Customers}
-use Rattle.latest_times.specs.models.Problem.{DistanceMatrix, Fit, Stops}
-use Rattle.latest_times.specs.BreakClockStopLaws.{stop_laws}
+use Rattle.latest_times.specs.models.Problem.{DistanceMatrix, Stops}
 use Rattle.latest_times.specs.quick_test.Quick.{then_on, departures_from, departures}
 use Rattle.latest_times.specs.quick_test.Parts.{leave}
 
@@ -37,23 +32,15 @@ after_one front time on = go (on time)
     go (Some later) = ap Some (sym (append_assoc front (time ∷ []) later))
 
 -- the first i cells are the departures so far, and the stops from i on give the others
-pub record Leaving (cs : Customers) (m : DistanceMatrix) (depot : ℕ) (route : List ℕ) (out₀ out : List Float) (time : Float) (prev i : ℕ) : Type 0 where
-  pub fit : Fit cs m
-  pub places : Stops m.size route
-  pub room : length route ≤ length out₀
-  pub bytes : length out₀ * 8 < 2 ^ 63
-  pub long : length out ≡ length out₀
-  pub within : i ≤ length route
+pub record Leaving (cs : Customers) (m : DistanceMatrix) (depot : ℕ) (route : List ℕ) (out : List Float) (time : Float) (prev i : ℕ) : Type 0 where
   pub there : prev < m.size
   pub same : departures cs m depot route ≡ after (take i out) (departures_from cs m time prev (drop i route))
 
-module _ (cs : Customers) (m : DistanceMatrix) (depot : ℕ) (route : List ℕ) (out₀ : List Float) where
-  pub leaving_start : Fit cs m → Stops m.size route → length route ≤ length out₀ → length out₀ * 8 < 2 ^ 63 → depot < m.size
-      → Leaving cs m depot route out₀ out₀ 0f depot 0
-  leaving_start f s r b h =
-      record { fit = f; places = s; room = r; bytes = b; long = refl; within = omega arith; there = h; same = after_nothing (departures cs m depot route) }
+module _ (cs : Customers) (m : DistanceMatrix) (depot : ℕ) (route : List ℕ) (out : List Float) where
+  pub leaving_start : depot < m.size → Leaving cs m depot route out 0f depot 0
+  leaving_start h = record { there = h; same = after_nothing (departures cs m depot route) }
 
-  module _ (out : List Float) (time : Float) (prev i : ℕ) (l : Leaving cs m depot route out₀ out time prev i) where
+  module _ (time : Float) (prev i : ℕ) (l : Leaving cs m depot route out time prev i) where
     module _ (s : Option Float) (h : i < length route) (es : s ≡ leave cs m time prev (get_or route i 0)) where
       one : departures_from cs m time prev (drop i route) ≡ then_on s (λ t. departures_from cs m t (get_or route i 0) (drop (i + 1) route))
       unfolding departures_from leave
@@ -63,19 +50,12 @@ module _ (cs : Customers) (m : DistanceMatrix) (depot : ℕ) (route : List ℕ) 
       leaving_missed e =
           l.same ∙ ap (after (take i out)) (one ∙ ap (λ (x : Option Float). then_on x (λ t. departures_from cs m t (get_or route i 0) (drop (i + 1) route))) e)
 
-      pub leaving_on : (t : Float) → s ≡ Some t → Leaving cs m depot route out₀ (set out i t) t (get_or route i 0) (i + 1)
-      leaving_on t e =
+      pub leaving_on : (t : Float) → Stops m.size route → i < length out → s ≡ Some t → Leaving cs m depot route (set out i t) t (get_or route i 0) (i + 1)
+      leaving_on t places inside e =
           let later : Float → Option (List Float) = λ u. departures_from cs m u (get_or route i 0) (drop (i + 1) route) in
-          let inside : i < length out = omega (arith, l.long, l.room) in
           let grown : take i out ++ (t ∷ []) ≡ take (i + 1) (set out i t) = sym (rw (add-one i) (take-suc-set out i t inside)) in
           record {
-            fit = l.fit;
-            places = l.places;
-            room = l.room;
-            bytes = l.bytes;
-            long = length-set out i t ∙ l.long;
-            within = omega arith;
-            there = l.places.each i h;
+            there = places.each i h;
             same =
                 l.same
                 ∙ ap (after (take i out)) (one ∙ ap (λ (x : Option Float). then_on x later) e)
@@ -83,24 +63,10 @@ module _ (cs : Customers) (m : DistanceMatrix) (depot : ℕ) (route : List ℕ) 
                 ∙ ap (λ (front : List Float). after front (later t)) grown;
           }
 
-    pub leaving_end : length route ≤ i → departures cs m depot route ≡ Some (take (length route) out)
+    pub leaving_end : i ≡ length route → departures cs m depot route ≡ Some (take (length route) out)
     unfolding departures_from
-    leaving_end h =
-        let e : i ≡ length route = le_antisymm l.within h in
+    leaving_end e =
         l.same
-        ∙ ap (λ (rest : List ℕ). after (take i out) (departures_from cs m time prev rest)) (drop_of_length-le route h)
+        ∙ ap (λ (rest : List ℕ). after (take i out) (departures_from cs m time prev rest)) (drop_of_length-le route (omega arith))
         ∙ ap Some (append-nil (take i out))
         ∙ ap (λ (k : ℕ). Some (take k out)) e
-
-    pub leaving_cell : i < length route → i < length out
-    leaving_cell h = omega (arith, l.long, l.room)
-
-    pub leaving_byte : i < length route → Fits w64 (i * 8)
-    leaving_byte h = scaled_Fits i (length out₀) 8 (omega (arith, l.room)) l.bytes
-
-    pub leaving_length : length out ≡ length out₀
-    leaving_length = l.long
-
-pub ruleset leaving_laws = (leaving_start, leaving_missed, leaving_on, leaving_end)
-
-pub ruleset leaving_needs = (stop_laws, leaving_cell, leaving_byte, leaving_length)

@@ -13,7 +13,7 @@ use latest_times::{infinity, latest_arrival, leave};
 pub use latest_times::{
     Counts, Demand, DistanceMatrix, Fleet, Insertion, Instance, LocalSearchNext, Network, Pick,
     Reduction, Vehicle, checked, constrained, copy_part, feasible, has_room, insertion_cost,
-    may_fit, next_pick, rounds, routes, trial_ok, within_capacity,
+    may_fit, pick_after, rounds, routes, trial_ok, within_capacity,
 };
 
 // The time each stop of a route is left goes to the first cells; false where one is reached after its window closes.
@@ -23,8 +23,8 @@ pub fn departures(out: &mut [f64], route: &[u16], depot: usize, net: &Network) -
 {
     let mut time = 0.0;
     let mut prev = depot;
-    for i in 0..route.len() {
-        let c = route[i] as usize;
+    for (i, stop) in route.iter().enumerate() {
+        let c = *stop as usize;
         let Some(left) = leave(time, prev, c, net) else {
             return false;
         };
@@ -44,8 +44,8 @@ pub fn latest_arrivals(out: &mut [f64], route: &[u16], depot: usize, net: &Netwo
 {
     let mut by = infinity();
     let mut next = depot;
-    for i in (0..route.len()).rev() {
-        let c = route[i] as usize;
+    for (i, stop) in route.iter().enumerate().rev() {
+        let c = *stop as usize;
         by = latest_arrival(by, c, next, net);
         out[i] = by;
         next = c;

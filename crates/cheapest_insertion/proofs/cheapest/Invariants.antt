@@ -2,8 +2,12 @@
 use Rattle.std.proofs.Common.{None}
 use Rattle.route_insertion.specs.evaluation.Given.{of_instance}
 use Rattle.route_insertion.specs.insertion.Cheapest.{try_route}
-use Rattle.route_insertion.specs.InsertionLeftLaws.{Left}
+use Rattle.route_insertion.specs.plan.Given.{plan_of}
+use Rattle.route_insertion.specs.plan.Plan.{split}
+use Rattle.route_insertion.specs.plan.Left.{Left}
 use Rattle.cheapest_insertion.proofs.cheapest.Given as goal
 
 abbrev pub invariant-loop-k : goal.invariant-loop-k
-invariant-loop-k l = Left l.lengths l.routes.stops.now (try_route (of_instance l.given) l.c) None l.best l.k l.rest
+invariant-loop-k l =
+    (goal.iterator-loop-k).can_next l.k-iterator
+    × Left (try_route (of_instance l.given) l.c) None l.best (plan_of l.routes) (split l.k-iterator.iter.lengths.now l.k-iterator.iter.stops.now) l.k-iterator.count

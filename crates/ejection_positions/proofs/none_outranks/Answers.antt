@@ -1,19 +1,19 @@
 -- `none_outranks` meets its contract: what the check does not find alone.
-use mathlib.Core.Path.{ap}
+use Prim.Native.Nat.{ℕ, suc}
 use mathlib.Core.Bool.{not}
-use native.Mathlib.Omega.{arith}
+use Rattle.std.proofs.Common.{rules, tests, ◌∙◌, length}
+use Rattle.std.proofs.Math.Nat.{sub-zero}
+use Rattle.std.proofs.lemmas.Iterator.{YieldsList-from_range}
+use Rattle.std.proofs.lemmas.Iterator.Search.{all_from_yields_List}
+use Rattle.ejection.specs.route_cost.Route.{insertion_cost}
+use Rattle.ejection.specs.Eject.{outranks}
 use Rattle.ejection_positions.specs.Pass.{none_outranks}
-use Rattle.ejection.specs.laws.Passed.{passed_one, failed_one, every_laws}
-use Rattle.ejection_positions.proofs.PositionLaws.{rank_told}
+use Rattle.ejection_positions.proofs.RangeLaws.{range_every}
 use Rattle.ejection_positions.proofs.none_outranks.Goals as goal
-
-pub returns-then-outranks : goal.returns-then-outranks
-unfolding none_outranks
-returns-then-outranks c = failed_one _ _ _ c.loop-pos.invariant _ (omega arith) (rank_told _ _ c.args.failed _ _ _ c.args.best _ _ c.insertion_cost-cost.ensures c.outranks.ensures) (ap not c.if-outranks.true)
-
-pub loop-pos-preserved : goal.loop-pos-preserved
-loop-pos-preserved c = passed_one _ _ _ c.loop-pos.invariant _ (omega arith) (rank_told _ _ c.args.failed _ _ _ c.args.best _ _ c.insertion_cost-cost.ensures c.outranks.ensures) (ap not c.if-outranks.false)
 
 pub returns : goal.returns
 unfolding none_outranks
-returns c = search every_laws
+returns c =
+    let t = λ (q : ℕ). not (outranks c.args.failed (insertion_cost c.args.fleet.now.net.roads c.args.fleet.now.vehicle.depot_id c.args.kept.now q c.args.c) c.args.best) in
+    let n = suc (length c.args.kept.now) in
+    all_from_yields_List t _ _ _ c.all.ensures.ran (YieldsList-from_range 0 n n (search rules) (sub-zero n)) (λ x b q k. search (rules, tests)) ∙ range_every t n 0

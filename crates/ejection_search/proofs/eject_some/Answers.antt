@@ -1,23 +1,29 @@
 -- `eject_some` meets its contract: what the check does not find alone.
-use native.Mathlib.Omega.{arith}
-use Rattle.route_ejection.specs.InsertionLeftLaws.{left_start, left_fits, left_stops, left_more, left_end}
+use Rattle.std.proofs.Common.{rules}
+use Rattle.route_ejection.specs.plan.Slices.{length_split}
+use Rattle.route_ejection.specs.plan.Left.{left_start, left_there, left_is, left_all, left_more, left_end}
 use Rattle.ejection_search.specs.Some.{eject_some}
+use Rattle.ejection_search.proofs.SearchLaws.{route_room}
 use Rattle.ejection_search.proofs.eject_some.Goals as goal
 
 pub loop-k-init : goal.loop-k-init
-loop-k-init c = left_start _ _ _ _ c.args.routes.now.lent
+loop-k-init c = search (rules, length_split, left_start)
 
-pub split_at-requires : goal.split_at-requires
-split_at-requires c = left_fits _ _ _ _ _ _ _ c.loop-k.invariant c.loop-k-test.true
+pub try_some-best-requires-clause-stops : goal.try_some-best-requires-clause-stops
+try_some-best-requires-clause-stops c = left_all _ _ _ _ c.loop-k.invariant.1 _ _ c.in-Some.ensures.steps.0 c.requires.stops
 
-pub try_some-best-requires-clause-sought : goal.try_some-best-requires-clause-sought
-try_some-best-requires-clause-sought c =
-    let s = left_stops _ _ _ _ _ _ _ c.loop-k.invariant c.loop-k-test.true _ c.split_at.ensures.front _ c.requires.stops in
-    record { counted = c.requires.counted; stops = s; place = c.requires.there }
+pub try_some-best-requires-clause-room : goal.try_some-best-requires-clause-room
+try_some-best-requires-clause-room c =
+    let g = c.loop-k.invariant.1 in
+    let s = c.in-Some.ensures.steps.0 in
+    let short = route_room c.args.routes.now _ (left_there _ _ _ _ g _ _ s) (left_is _ _ _ _ g _ _ s) in
+    search (rules, short)
 
 pub loop-k-preserved : goal.loop-k-preserved
-loop-k-preserved c = left_more _ _ _ _ _ _ _ c.loop-k.invariant c.loop-k-test.true _ c.split_at.ensures.front _ _ c.split_at.ensures.back c.try_some-best.ensures
+loop-k-preserved c =
+    let s = c.in-Some.ensures.steps in
+    ((c.in-Some.ensures.goes.on tt).0, left_more _ _ _ _ c.loop-k.invariant.1 _ _ s.0 _ _ _ s.1 s.2 c.try_some-best.ensures)
 
 pub returns : goal.returns
 unfolding eject_some
-returns c = left_end _ _ _ _ _ _ _ c.loop-k.invariant (omega (arith, c.loop-k.auto.k-end))
+returns c = left_end _ _ _ _ c.loop-k.invariant.1 c.in-None.ensures.steps.0.0

@@ -1,6 +1,7 @@
 -- `join` meets its contract: what the check does not find alone.
 use borrow.Author.Rules.{rules}
-use Rattle.joined_tails.proofs.JoinLaws.{join_laws}
+use mathlib.Core.Path.{◌∙◌}
+use Rattle.joined_tails.proofs.JoinLaws.{join_laws, joined_taken}
 use Rattle.joined_tails.proofs.join.Goals as goal
 
 pub begins-p-requires : goal.begins-p-requires
@@ -29,3 +30,7 @@ copy_part-requires-2 c = (search (rules, join_laws), search join_laws)
 
 pub overflow_add-result : goal.overflow_add-result
 overflow_add-result c = search join_laws
+
+pub slice_bounds-result-end : goal.slice_bounds-result-end
+slice_bounds-result-end c =
+    joined_taken c.args.routes.now _ _ _ _ c.requires.other c.requires.first c.requires.second _ _ c.requires.has_room (c.copy_part-2.auto.dst ∙ c.copy_part.auto.dst)

@@ -1,6 +1,8 @@
 -- `earliest_start` meets its contract: what the check does not find alone.
-use Rattle.quick_fit.specs.QuickTestArrivalLaws.{earliest_none}
+use Rattle.std.proofs.Common.{rules}
+use lib.Ieee.{neg}
 use Rattle.latest_times.proofs.earliest_start.Goals as goal
 
-pub returns-in-None : goal.returns-in-None
-returns-in-None c = search earliest_none
+pub returns : goal.returns
+unfolding neg
+returns c = search rules

@@ -6,13 +6,13 @@ use Rattle.listing_whole.proofs.WholeLaws.{first_room, routes_room, last_room, l
 use Rattle.listing_whole.proofs.put_listing.Goals as goal
 
 pub put_first_line-requires : goal.put_first_line-requires
-put_first_line-requires c = first_room (of_problem c.args.problem.now) _ _ _ c.requires.there c.args.counts _ (record { room = c.requires.room })
+put_first_line-requires c = first_room (of_problem c.args.problem.now) _ _ c.args.counts _ (record { room = c.requires.room })
 
 pub put_routes-requires-clause-room : goal.put_routes-requires-clause-room
-put_routes-requires-clause-room c = routes_room _ _ _ _ c.requires.there c.args.counts _ (record { room = c.requires.room }) c.put_first_line.ensures
+put_routes-requires-clause-room c = routes_room _ _ _ c.args.counts _ (record { room = c.requires.room }) c.put_first_line.ensures
 
 pub put_last_line-requires : goal.put_last_line-requires
-put_last_line-requires c = last_room _ _ _ _ c.requires.there c.args.counts _ (record { room = c.requires.room }) c.put_first_line.ensures c.put_routes.ensures
+put_last_line-requires c = last_room _ _ _ c.args.counts _ (record { room = c.requires.room }) c.put_first_line.ensures c.put_routes.ensures
 
 pub returns : goal.returns
-returns c = page_gone _ (listing_put _ _ _ _ c.requires.there c.args.counts _ c.put_first_line.ensures c.put_routes.ensures c.put_last_line.ensures) (search rules)
+returns c = page_gone _ (listing_put _ _ _ c.args.counts _ c.put_first_line.ensures c.put_routes.ensures c.put_last_line.ensures) (search rules)

@@ -1,5 +1,7 @@
 -- `search` meets its contract: what the check does not find alone.
-use mathlib.Core.Path.{sym, ◌∙◌}
+use mathlib.Core.Path.{◌≡◌, sym, ◌∙◌}
+use Rattle.std.proofs.Common.{rules}
+use Rattle.minimization_round.specs.local_search.Search.{uncounted}
 use Rattle.minimization_round.specs.LocalSearchSearchLaws.{rounding_start, round_same, trying_start, at_end, after_accepted_less, after_accepted}
 use Rattle.minimization_round.specs.minimization.Attempted.{attempt_reduces}
 use Rattle.minimization_round.proofs.NextLaws.{round_cost}
@@ -7,7 +9,9 @@ use Rattle.minimization_search.proofs.SearchLaws.{trying_countable}
 use Rattle.minimization_search.proofs.search.Goals as goal
 
 pub search-init : goal.search-init
-search-init c = rounding_start _ _ _ _ _ c.requires.whole c.requires.routes_few c.requires.planned
+search-init c =
+    let none_yet : c.default-counts.result ≡ uncounted = search rules in
+    rw none_yet (rounding_start _ _ _ _ _ c.requires.whole c.requires.routes_few c.requires.planned)
 
 pub loop-pick-init : goal.loop-pick-init
 loop-pick-init c = (

@@ -1,10 +1,6 @@
 -- `may_fit` meets its contract: what the check does not find alone.
-use Rattle.std.proofs.Common.{rules}
-use Rattle.quick_fit.proofs.FitLaws.{before_there, fit_laws}
+use Rattle.quick_fit.proofs.FitLaws.{fit_laws}
 use Rattle.quick_fit.proofs.may_fit.Goals as goal
-
-pub leave-requires : goal.leave-requires
-leave-requires c = search (rules, before_there)
 
 pub returns-in_default : goal.returns-in_default
 returns-in_default c = search fit_laws

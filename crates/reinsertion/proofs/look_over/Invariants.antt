@@ -1,7 +1,14 @@
 -- What the loop of `look_over` keeps.
-use Rattle.reinsertion.proofs.OverLaws.{Seeking}
+use Rattle.std.proofs.Common.{None}
 use Rattle.reinsertion_candidates.specs.evaluation.Given.{of_instance}
+use Rattle.reinsertion_candidates.specs.plan.Given.{plan_of}
+use Rattle.reinsertion_candidates.specs.plan.Plan.{split}
+use Rattle.reinsertion_candidates.specs.plan.Left.{Left}
+use Rattle.reinsertion_candidates.specs.Place.{look_through}
 use Rattle.reinsertion.proofs.look_over.Given as goal
 
 abbrev pub invariant-loop-k : goal.invariant-loop-k
-invariant-loop-k l = Seeking (of_instance l.given) l.lengths l.initial.rest l.stop l.best l.rest l.k
+invariant-loop-k l =
+    (goal.iterator-loop-k).can_next l.k-iterator
+    × Left (look_through (of_instance l.given) l.stop.c l.stop.added l.stop.saved) None l.best (plan_of l.routes)
+    (split l.k-iterator.iter.lengths.now l.k-iterator.iter.stops.now) l.k-iterator.count

@@ -2,8 +2,8 @@
 use Rattle.reinsertion_worth.proofs.WorthLaws.{insertion_laws}
 use Rattle.reinsertion_worth.proofs.insertion_worth.Goals as goal
 
-pub returns-then-fleet : goal.returns-then-fleet
-returns-then-fleet c = search insertion_laws
+pub returns-in-Some : goal.returns-in-Some
+returns-in-Some c = search insertion_laws
 
-pub returns : goal.returns
-returns c = search insertion_laws
+pub returns-in-None : goal.returns-in-None
+returns-in-None c = search insertion_laws

@@ -10,14 +10,14 @@ use Rattle.elimination_round.specs.evaluation.Given.{of_instance}
 use Rattle.route_elimination.proofs.eliminate_routes.Given as goal
 
 abbrev pub invariant-loop-pick : goal.invariant-loop-pick
-invariant-loop-pick l = Trying (attempt (of_instance l.given)) 0 l.given.fleet.net.roads.size l.initial.lengths l.initial.stops uncounted l.count l.lengths l.stops uncounted l.last
+invariant-loop-pick l = Trying (attempt (of_instance l.fn.given)) 0 l.fn.given.fleet.net.roads.size l.initial.lengths l.initial.stops uncounted l.count l.lengths l.stops uncounted l.last
     × (length l.work ≡ length l.initial.work)
 
 abbrev pub decreases-loop-pick : goal.decreases-loop-pick
 decreases-loop-pick l = length (following (take l.count l.lengths) l.last)
 
 abbrev pub invariant-search : goal.invariant-search
-invariant-search l = Rounding (attempt (of_instance l.given)) 0 l.given.fleet.net.roads.size l.initial.lengths l.initial.stops l.lengths l.stops uncounted
+invariant-search l = Rounding (attempt (of_instance l.fn.given)) 0 l.fn.given.fleet.net.roads.size l.initial.lengths l.initial.stops l.lengths l.stops uncounted
     × (length l.work ≡ length l.initial.work)
 
 abbrev pub decreases-search : goal.decreases-search

@@ -8,4 +8,4 @@ use Rattle.insertion.specs.evaluation.Given.{of_fleet}
 use Rattle.route_insertion.proofs.try_positions.Given as goal
 
 abbrev pub invariant-loop-pos : goal.invariant-loop-pos
-invariant-loop-pos l = l.found ≡ loop l.pos (pass_position (of_fleet l.fleet) l.c l.k l.route (held (length l.route) l.times.cells.now)) l.initial.found
+invariant-loop-pos l = l.found ≡ loop l.pos (pass_position (of_fleet l.fleet) l.c l.k l.route (held (length l.route) l.times)) l.initial.found

@@ -2,11 +2,11 @@
 use Rattle.route_order.proofs.OrderLaws.{looking_laws}
 use Rattle.route_order.proofs.next_pick.Goals as goal
 
-pub loop-k-init : goal.loop-k-init
-loop-k-init c = search looking_laws
+pub loop-route-init : goal.loop-route-init
+loop-route-init c = search looking_laws
 
-pub loop-k-preserved : goal.loop-k-preserved
-loop-k-preserved c = search looking_laws
+pub loop-route-preserved : goal.loop-route-preserved
+loop-route-preserved c = search looking_laws
 
 pub returns : goal.returns
 returns c = search looking_laws

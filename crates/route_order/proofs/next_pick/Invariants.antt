@@ -2,5 +2,5 @@
 use Rattle.route_order.proofs.OrderLaws.{Looking}
 use Rattle.route_order.proofs.next_pick.Given as goal
 
-abbrev pub invariant-loop-k : goal.invariant-loop-k
-invariant-loop-k l = Looking l.lengths l.last l.best l.k
+abbrev pub invariant-loop-route : goal.invariant-loop-route
+invariant-loop-route l = Looking l.lengths l.last l.best l.route

@@ -7,7 +7,7 @@ use Rattle.route_without.proofs.try_without.Goals as goal
 pub try_rest-requires-clause-running : goal.try_rest-requires-clause-running
 try_rest-requires-clause-running c =
     starts_running _ c.requires.attempting c.requires.r_in_bounds c.erase_route.new.routes c.to_pool.new.pool _ c.erase_route.ensures.rest c.erase_route.ensures.plan c.erase_route.ensures.kept
-    c.to_pool.ensures.stops refl (omega (arith, c.to_pool.ensures.kept.size))
+    c.to_pool.ensures.stops refl (omega (arith, c.to_pool.ensures.kept.size)) c.requires.has_room
 
 pub invariant_of-routes : goal.invariant_of-routes
 invariant_of-routes c = record {

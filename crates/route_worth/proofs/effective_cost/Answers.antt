@@ -4,10 +4,6 @@ use Rattle.std.proofs.lemmas.Grind.{common_steps}
 use Rattle.route_drive.specs.evaluation.Eval.{effective_cost}
 use Rattle.route_worth.proofs.effective_cost.Goals as goal
 
-pub returns-in-Some : goal.returns-in-Some
+pub returns : goal.returns
 unfolding effective_cost
-returns-in-Some c = grind (arith, common_steps)
-
-pub returns-in-None : goal.returns-in-None
-unfolding effective_cost
-returns-in-None c = grind (arith, common_steps)
+returns c = grind (arith, common_steps)

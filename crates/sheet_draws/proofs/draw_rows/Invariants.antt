@@ -1,6 +1,5 @@
 -- What the loops of `draw_rows` keep.
 use Prim.Native.Nat.{ℕ, ◌-◌}
-use mathlib.Core.Path.{◌≡◌}
 use lib.ListN.{length}
 use Rattle.sheet_reader.specs.Cells.{front}
 use Rattle.sheet_reader.specs.sheet_text.Text.{before, lf, number, repeat}
@@ -8,8 +7,7 @@ use Rattle.sheet_reader.specs.sheet_text.Told.{seen}
 use Rattle.sheet_reader.specs.SheetTextReadLaws.{Left}
 use Rattle.sheet_draws.proofs.draw_rows.Given as goal
 
-abbrev pub invariant-loop-i : goal.invariant-loop-i
-invariant-loop-i l = record {
-  read : Left (repeat l.n (λ left. before lf number)) l.initial.text (seen (front (λ (v : ℕ). v) l.cells l.i) (repeat (l.n - l.i) (λ left. before lf number))) l.text;
-  size : l.n ≡ length l.cells;
+abbrev pub invariant-loop-cell : goal.invariant-loop-cell
+invariant-loop-cell l = record {
+  read : Left (repeat (length l.initial.cells) (λ left. before lf number)) l.initial.text (seen (front (λ (v : ℕ). v) l.cells l.cell-index) (repeat (l.cell-index-end - l.cell-index) (λ left. before lf number))) l.text;
 }

@@ -1,7 +1,6 @@
 -- `list_read` meets its contract: what the check does not find alone.
 use native.Mathlib.Nat.{le_of_eq, le_trans}
-use mathlib.Core.Path.{sym, ap, ◌∙◌}
-use Rattle.sheet_parts.specs.listing.Listing.{refusal_line}
+use mathlib.Core.Path.{sym}
 use Rattle.sheet_parts.specs.SheetLawsRead.{sheet_holds}
 use Rattle.sheet_parts.specs.SheetAnswersListedLaws.{refusal_room, written_as, reader_refuses, reader_goes_on}
 use Rattle.sheet_listing.proofs.list_read.Goals as goal
@@ -27,7 +26,7 @@ list_parts-requires c = record {
 }
 
 pub returns-in-Err : goal.returns-in-Err
-returns-in-Err c = written_as c.put_refusal.ensures (ap refusal_line c.number.ensures ∙ reader_refuses _ _ c.in-Err.ensures.result_after)
+returns-in-Err c = written_as c.put_refusal.ensures (reader_refuses _ _ c.in-Err.ensures.result_after)
 
 pub returns-in-Ok : goal.returns-in-Ok
 returns-in-Ok c = written_as c.list_parts.ensures (reader_goes_on _ _ _ c.in-Ok.ensures.result_after)

@@ -11,7 +11,7 @@ pub overflow_mul-m : goal.overflow_mul-m
 overflow_mul-m c = record { fits = omega (arith, square_fits _ 4096 c.requires.n_bound.0 (omega arith)) }
 
 pub overflow_mul-t : goal.overflow_mul-t
-overflow_mul-t c = let h : c.args.head.timed ≤ 64 = omega (arith, c.requires.n_bound.0, c.requires.n_bound.1) in
+overflow_mul-t c = let h : c.args.read.head.timed ≤ 64 = omega (arith, c.requires.n_bound.0, c.requires.n_bound.1) in
     record { fits = omega (arith, square_fits _ 4096 h (omega arith)) }
 
 pub slice_bounds-list_planned-end-2 : goal.slice_bounds-list_planned-end-2
@@ -48,7 +48,7 @@ pub slice_bounds-roads-end-2 : goal.slice_bounds-roads-end-2
 slice_bounds-roads-end-2 c = sym (length-take-le _ c.args.times.now (square_fits _ _ (omega (arith, c.requires.n_bound.0, c.requires.n_bound.1)) c.requires.in_bounds_3.1))
 
 pub list_planned-requires : goal.list_planned-requires
-list_planned-requires c = record { in_bounds = (c.requires.in_bounds.0, omega (arith, c.requires.n_bound.3, length-take-le c.args.given c.args.lengths.now (le_trans c.requires.n_bound.3 c.requires.in_bounds_2.0)), omega (arith, c.requires.n_bound.4, length-take-le c.args.used c.args.stops.now (le_trans c.requires.n_bound.4 c.requires.in_bounds_2.1)), c.requires.in_bounds.1, c.requires.in_bounds.2); short = c.requires.short }
+list_planned-requires c = record { in_bounds = (c.requires.in_bounds.0, omega (arith, c.requires.n_bound.3, length-take-le c.args.read.request.given c.args.lengths.now (le_trans c.requires.n_bound.3 c.requires.in_bounds_2.0)), omega (arith, c.requires.n_bound.4, length-take-le c.args.read.request.used c.args.stops.now (le_trans c.requires.n_bound.4 c.requires.in_bounds_2.1)), c.requires.in_bounds.1, c.requires.in_bounds.2); short = c.requires.short }
 
 pub returns : goal.returns
 returns c = c.list_planned.ensures

@@ -5,8 +5,8 @@ use Rattle.stop_exchange.proofs.try_exchange.Goals as goal
 pub both_feasible-requires-clause-planned : goal.both_feasible-requires-clause-planned
 both_feasible-requires-clause-planned c = search (exchanged_planned, c.requires, c.exchange_stops)
 
-pub exchange_stops-requires-2-clause-first : goal.exchange_stops-requires-2-clause-first
-exchange_stops-requires-2-clause-first c = search (exchanged_first, c.requires, c.exchange_stops)
+pub exchange_stops-requires-then-not-both_feasible-clause-first : goal.exchange_stops-requires-then-not-both_feasible-clause-first
+exchange_stops-requires-then-not-both_feasible-clause-first c = search (exchanged_first, c.requires, c.exchange_stops)
 
-pub exchange_stops-requires-2-clause-second : goal.exchange_stops-requires-2-clause-second
-exchange_stops-requires-2-clause-second c = search (exchanged_second, c.requires, c.exchange_stops)
+pub exchange_stops-requires-then-not-both_feasible-clause-second : goal.exchange_stops-requires-then-not-both_feasible-clause-second
+exchange_stops-requires-then-not-both_feasible-clause-second c = search (exchanged_second, c.requires, c.exchange_stops)

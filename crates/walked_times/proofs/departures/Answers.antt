@@ -1,25 +1,16 @@
 -- `departures` meets its contract: what the check does not find alone.
-use Prim.Native.Nat.{◌-◌}
-use Rattle.walked_times.proofs.DepartureLaws.{leaving_laws, leaving_needs}
+use native.Mathlib.Omega.{arith}
+use Rattle.walked_times.proofs.DepartureLaws.{leaving_start, leaving_missed, leaving_on, leaving_end}
 use Rattle.walked_times.proofs.departures.Goals as goal
 
 pub loop-i-init : goal.loop-i-init
-loop-i-init c = search leaving_laws
-
-pub leave-requires : goal.leave-requires
-leave-requires c = search leaving_needs
+loop-i-init c = leaving_start _ _ _ _ _ c.requires.0
 
 pub returns-in_default : goal.returns-in_default
-returns-in_default c = search leaving_laws
-
-pub offset_bounds-out-i : goal.offset_bounds-out-i
-offset_bounds-out-i c = search leaving_needs
-
-pub bounds-out-i : goal.bounds-out-i
-bounds-out-i c = search leaving_needs
+returns-in_default c = leaving_missed _ _ _ _ _ _ _ _ c.loop-i.invariant _ c.loop-i-test.true c.leave.ensures c.in_default.is
 
 pub loop-i-preserved : goal.loop-i-preserved
-loop-i-preserved c = search leaving_laws
+loop-i-preserved c = leaving_on _ _ _ _ _ _ _ _ c.loop-i.invariant _ c.loop-i-test.true c.leave.ensures _ c.requires.1 (omega (arith, c.loop-i-test.true, c.requires.2, c.loop-i.auto.out)) c.in-Some.is
 
 pub returns : goal.returns
-returns c = search leaving_laws
+returns c = leaving_end _ _ _ _ _ _ _ _ c.loop-i.invariant (omega (arith, c.loop-i-test.false, c.loop-i.auto.i-end))

@@ -1,5 +1,5 @@
 -- `put_in` meets its contract: what the check does not find alone.
-use Rattle.std.proofs.Common.{rules, refl, arith, length-set}
+use Rattle.std.proofs.Common.{rules, refl, length-set}
 use Rattle.plan.proofs.PlanLaws.{edit_laws, place_laws, becomes, lent_laws}
 use Rattle.plan.proofs.routes.Routes.put_in.Goals as goal
 
@@ -28,4 +28,4 @@ pub invariant_of-self-2 : goal.invariant_of-self-2
 invariant_of-self-2 c = record { lent = search (rules, lent_laws) }
 
 pub returns : goal.returns
-returns c = becomes _ _ (record { same_lengths = refl; same_stops = refl; count = length-set _ _ _; room = search rules }) (search edit_laws)
+returns c = becomes _ _ (record { same_lengths = refl; same_stops = refl; count = length-set _ _ _; room = search edit_laws }) (search edit_laws)

@@ -34,7 +34,7 @@ pub invariant_of-self-2 : goal.invariant_of-self-2
 invariant_of-self-2 c = record { lent = search (rules, lent_laws) }
 
 pub returns-clause-plan : goal.returns-clause-plan
-returns-clause-plan c = becomes _ _ (record { same_lengths = refl; same_stops = refl; count = length-set _ _ _; room = search rules }) (search edit_laws)
+returns-clause-plan c = becomes _ _ (record { same_lengths = refl; same_stops = refl; count = length-set _ _ _; room = search edit_laws }) (search edit_laws)
 
 pub returns-clause-stop : goal.returns-clause-stop
 returns-clause-stop c = search edit_laws

@@ -1,3 +1,0 @@
--- Laws of what is asked.
--- the calls that change a plan
-pub mod ChangeLaws

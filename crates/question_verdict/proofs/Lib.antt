@@ -1,3 +1,0 @@
--- Laws of what is asked.
--- the questions, by their kinds
-pub mod AskLaws
