@@ -26,15 +26,12 @@ fn clocked(
 ) -> Option<BreakClock>
     ensures { result ≡ clocked before after prev index }
 {
-    if lives(before) || lives(after) {
-        return Some(BreakClock {
-            before,
-            after,
-            prev,
-            index,
-        });
-    }
-    None
+    (lives(before) || lives(after)).then_some(BreakClock {
+        before,
+        after,
+        prev,
+        index,
+    })
 }
 
 // The end of a route by the label after the break.

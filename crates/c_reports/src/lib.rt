@@ -8,7 +8,7 @@ use c_values::Fault;
 use call_lists::Malformed;
 
 // Of the crates below, passed on to those above.
-pub use call_lists::{Allowance, eliminate, minimise, run_calls};
+pub use call_lists::{Allowance, Buffers, eliminate, minimise, run_calls};
 pub use sheet_planner::plan_sheet;
 
 // The number for a list of calls.

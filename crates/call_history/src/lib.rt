@@ -8,7 +8,7 @@ ghost use Rattle.call_words.specs.Words.{answer_words, put};
 use call_words::{Reduction, Refusal};
 
 // Of the crates below, passed on to those above.
-pub use call_words::{Problem, Vehicle, well_formed, words_at};
+pub use call_words::{Buffers, Problem, Vehicle, Words, well_formed};
 
 // The answer of call i, in four words.
 pub fn record_answer(answers: &mut [u64], i: usize, a: Result<Reduction, Refusal>)

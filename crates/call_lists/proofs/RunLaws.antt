@@ -3,11 +3,13 @@ use Prim.Native.Nat.{ℕ, zero, suc, ◌+◌, ◌*◌, ◌-◌, ◌≤◌, ◌<�
 use mathlib.Core.Path.{◌≡◌, refl, sym, ap, subst, ◌∙◌}
 use mathlib.Core.Bool.{true, ◌&&◌}
 use mathlib.Core.List.{List, [], ◌∷◌, ◌++◌, append-nil, append_assoc}
-use Rattle.std.specs.Prelude.{Option, None, Some}
-use native.Mathlib.Nat.{le_refl, mul-le-mul_right, sub_self, sub-zero, zero-mul, one-mul, add-mul}
+use Rattle.std.specs.Prelude.{Option, None, Some, map}
+use native.Mathlib.Nat.{le_refl, mul-le-mul_right, zero-mul, one-mul, add-mul}
+use native.Mathlib.Numerals.{add-one}
 use native.Mathlib.Omega.{arith}
-use lib.ListN.{length, take, drop, length-append}
-use lib.Seq.{take_all, take_at, drop_at, drop-drop, length-take-le}
+use lib.ListN.{length, take, drop, get_or, length-append}
+use Rattle.std.proofs.lemmas.List.{drop_all, length-drop}
+use lib.Seq.{take_all, take_at, drop_at, drop-cons, length-take-le}
 use lib.Dec.{eqb, leb}
 use borrow.Author.Tests.{eqb-true, ne_eqb, leb-true}
 use Rattle.recorded_call.specs.laws.All.{All, all_nil, all_cons, all_append}
@@ -24,11 +26,13 @@ use Rattle.recorded_call.specs.call_words.declared.Words.{Words}
 use Rattle.recorded_call.specs.planner.Calls.{Answer, refused, answered, Reply, reply, public_minimise, public_eliminate}
 use Rattle.recorded_call.specs.planner.Told.{work_of}
 use Rattle.recorded_call.specs.planner.Run.{Call, minimise, eliminate, call, run, Claim}
-use Rattle.recorded_call.specs.call_words.Words.{Buffers, plan_slices, both_slices, words_first, words_of, call_of, decoded, count_of, calls_in, kind_passes, call_passes, calls_pass, well_formed, answer_words, answer_in, answer_row, slices_row, recorded, rows, put, words_at}
+use Rattle.recorded_call.specs.call_words.Words.{Buffers, plan_slices, both_slices, words_first, words_of, call_of, decoded, count_of, calls_in, kind_passes, call_passes, calls_pass, well_formed, answer_words, answer_in, answer_row, slices_row, recorded, rows, put}
+use Rattle.recorded_call.specs.call_words.Lent.{AsLong}
 use Rattle.call_lists.specs.Lists.{last_slices, replies_in, AllRun}
-use Rattle.recorded_call.specs.Recording.{Next, reply_at, Recorded}
+use Rattle.recorded_call.specs.Recording.{Next, reply_to, Recorded}
 use Rattle.recorded_call.specs.PlannerDemand3.{demand_3}
-use Rattle.recorded_call.specs.CallWordsFormLaws.{words_more}
+use Rattle.std.specs.Simd.{first_chunks}
+use Rattle.recorded_call.specs.CallWordsFormLaws.{words_rows}
 
 -- ---- the number of a refusal is not 0
 
@@ -118,9 +122,8 @@ length_decoded (suc n) calls tapes = ap suc (length_decoded n (drop 6 calls) (dr
 
 -- ---- what the form says
 
--- count calls, their words, and the room for what is recorded
+-- the room for what is recorded of count calls, and that they pass
 record Formed (calls tapes : List ℕ) (b : Buffers) (count : ℕ) : Type 0 where
-  size : length calls ≡ count * 6
   answers_long : length b.answers ≡ count * 4
   history_long : length b.history ≡ count * both_slices b
   passes : calls_pass (work_of (length b.work) (length b.cells)) (words_of count calls) (length tapes) ≡ true
@@ -136,7 +139,6 @@ formed calls tapes b e =
     let e₁ = and_second words (answers && (history && pass)) e in
     let e₂ = and_second answers (history && pass) e₁ in
     record {
-      size = eqb-true (length calls) (n * 6) (and_first words (answers && (history && pass)) e);
       answers_long = eqb-true (length b.answers) (n * 4) (and_first answers (history && pass) e₁);
       history_long = eqb-true (length b.history) (n * both_slices b) (and_first history pass e₂);
       passes = and_second history pass e₂;
@@ -167,170 +169,144 @@ passing there w ws left e =
 
 -- ---- `run_all`
 
--- every buffer is as long as it was
-pub record AsLong (before after : Buffers) : Type 0 where
-  pub lengths : length after.lengths ≡ length before.lengths
-  pub stops : length after.stops ≡ length before.stops
-  pub work : length after.work ≡ length before.work
-  pub cells : length after.cells ≡ length before.cells
-  pub answers : length after.answers ≡ length before.answers
-  pub history : length after.history ≡ length before.history
+-- what is asked for from call i on
+abbrev words_from : ℕ → List (List ℕ) → List Words
+words_from i words = map words_first (drop i words)
 
--- what is left from call i on
-abbrev calls_left : ℕ → ℕ → ℕ → List ℕ → List ℕ → List Call
-calls_left count i from calls tapes = decoded (words_of (count - i) (drop (i * 6) calls)) (drop from tapes)
-
--- i calls are run and recorded, and the next tape begins at `from`
-pub record Running (p : Problem) (calls tapes : List ℕ) (before : Buffers) (count : ℕ) (after : Buffers) (from i : ℕ) : Type 0 where
-  pub within : i ≤ count
-  pub as_long : AsLong before after
-  form : Formed calls tapes before count
+-- i calls are run and recorded, and so many tapes are left
+pub record Running (p : Problem) (words : List (List ℕ)) (tapes : List ℕ) (before after : Buffers) (left : List ℕ) (i : ℕ) : Type 0 where
+  pub within : i ≤ length words
+  answers_long : length before.answers ≡ length words * 4
+  history_long : length before.history ≡ length words * both_slices before
   done : List Reply
   number : length done ≡ i
-  by_run : run p (plan_slices before) (decoded (words_of count calls) tapes) ≡ done ++ run p (plan_slices after) (calls_left count i from calls tapes)
+  by_run : run p (plan_slices before) (decoded (map words_first words) tapes) ≡ done ++ run p (plan_slices after) (decoded (words_from i words) left)
   answers_so : take (i * 4) after.answers ≡ rows answer_row done
   history_so : take (i * both_slices before) after.history ≡ rows slices_row done
   readable : All (Readable (length before.lengths) (length before.stops)) done
   last : plan_slices after ≡ last_slices (plan_slices before) done
-  tapes_left : from ≤ length tapes
-  passes : calls_pass (work_of (length before.work) (length before.cells)) (words_of (count - i) (drop (i * 6) calls)) (length tapes - from) ≡ true
+  passes : calls_pass (work_of (length before.work) (length before.cells)) (words_from i words) (length left) ≡ true
 
-module _ (p : Problem) (calls tapes : List ℕ) (before : Buffers) (count : ℕ) where
-  pub running_start : (count ≡ count_of calls) × (well_formed calls tapes before ≡ true) → Running p calls tapes before count before 0 0
-  unfolding rows last_slices
-  running_start h =
-      let f : Formed calls tapes before count = subst (λ (n : ℕ). Formed calls tapes before n) (sym h.0) (formed calls tapes before h.1) in
-      record {
-        within = omega arith;
-        as_long = record { lengths = refl; stops = refl; work = refl; cells = refl; answers = refl; history = refl };
-        form = f;
-        done = [];
-        number = refl;
-        by_run = rw (sub-zero count);
-        answers_so = refl;
-        history_so = rw (zero-mul (both_slices before));
-        readable = all_nil;
-        last = refl;
-        tapes_left = omega arith;
-        passes = rw (sub-zero count, sub-zero (length tapes)) f.passes;
-      }
+module _ (p : Problem) (words : List (List ℕ)) (tapes : List ℕ) (before : Buffers) where
+  module _ (calls : List ℕ) (e : words ≡ first_chunks 6 (count_of calls) calls) (n : length words ≡ count_of calls) (h : well_formed calls tapes before ≡ true) where
+    words_are : map words_first words ≡ words_of (count_of calls) calls
+    words_are = rw e (words_rows (count_of calls) calls)
 
-  module _ (after : Buffers) (from i : ℕ) (r : Running p calls tapes before count after from i) where
-    same_both : both_slices after ≡ both_slices before
-    same_both = rw (r.as_long.lengths, r.as_long.stops)
-
-    first_words : i < count → words_of (count - i) (drop (i * 6) calls) ≡ words_at i calls ∷ words_of (count - (i + 1)) (drop ((i + 1) * 6) calls)
-    first_words h = words_more calls count i h
-
-    pass : i < count
-        → Passing (work_of (length before.work) (length before.cells)) (words_at i calls) (words_of (count - (i + 1)) (drop ((i + 1) * 6) calls)) (length tapes - from)
-    pass h = passing _ (words_at i calls) _ (length tapes - from) (rw (first_words h) at r.passes)
-
-    -- the rows of one call fit
-    row_room : (m : ℕ) → i < count → i * m + m ≤ count * m
-    row_room m h = let g : i + 1 ≤ count = omega arith in let k : (i + 1) * m ≤ count * m = mul-le-mul_right m g in omega (arith, k, add-mul i 1 m, one-mul m)
-
-    -- so many words are lent
-    pub running_words : count * 6 ≡ length calls
-    running_words = sym r.form.size
-
-    pub running_next : i < count → Next i from calls tapes after
-    running_next h =
-        let a = pass h in
+    pub running_start : Running p words tapes before before tapes 0
+    unfolding rows last_slices
+    running_start =
+        let f = formed calls tapes before h in
         record {
-          words = omega (arith, r.form.size);
-          lent = record {
-            tape = omega (arith, a.tape, r.tapes_left);
-            small = rw r.as_long.work a.small;
-            wide = rw r.as_long.cells a.wide;
-          };
-          answer = omega (arith, r.form.answers_long, r.as_long.answers);
-          slices = rw (same_both, r.as_long.history, r.form.history_long) (row_room (both_slices before) h);
+          within = omega arith;
+          answers_long = rw n f.answers_long;
+          history_long = rw n f.history_long;
+          done = [];
+          number = refl;
+          by_run = refl;
+          answers_so = refl;
+          history_so = rw (zero-mul (both_slices before));
+          readable = all_nil;
+          last = refl;
+          passes = rw words_are f.passes;
         }
 
-    module _ (next : ℕ) (now : Buffers) (x : Recorded i from next p calls tapes after now) (k : AsLong after now) (h : i < count) where
-      one : Reply
-      one = reply_at i from p calls tapes after
+  module _ (after : Buffers) (k : AsLong before after) (left : List ℕ) (i : ℕ) (r : Running p words tapes before after left i) where
+    same_both : both_slices after ≡ both_slices before
+    same_both = rw (k.lengths, k.stops)
 
-      -- the tape words that are left
-      after_tape : drop (words_at i calls).tape (drop from tapes) ≡ drop next tapes
-      after_tape = rw (x.tape, drop-drop (words_at i calls).tape from tapes)
+    module _ (h : i < length words) (w : Words) (ew : w ≡ words_first (get_or words i [])) where
+      first_words : words_from i words ≡ w ∷ words_from (i + 1) words
+      first_words = rw (add-one i, drop-cons words i [] h, ew)
 
-      left_is : run p (plan_slices after) (calls_left count i from calls tapes) ≡ one ∷ run p (plan_slices now) (calls_left count (i + 1) next calls tapes)
-      unfolding run decoded one
-      left_is = rw (first_words h, after_tape, x.slices)
+      pass : Passing (work_of (length before.work) (length before.cells)) w (words_from (i + 1) words) (length left)
+      pass = passing _ w _ (length left) (rw first_words at r.passes)
 
-      one_readable : Readable (length before.lengths) (length before.stops) one
-      unfolding one
-      one_readable =
+      -- the rows of one call fit
+      row_room : (m : ℕ) → i * m + m ≤ length words * m
+      row_room m = let g : i + 1 ≤ length words = omega arith in let j : (i + 1) * m ≤ length words * m = mul-le-mul_right m g in omega (arith, j, add-mul i 1 m, one-mul m)
+
+      pub running_next : Next i w left after
+      running_next =
+          let a = pass in
           record {
-            lengths_long = ap (λ (s : Slices). length s.lengths) (sym x.slices) ∙ k.lengths ∙ r.as_long.lengths;
-            stops_long = ap (λ (s : Slices). length s.stops) (sym x.slices) ∙ k.stops ∙ r.as_long.stops;
-            number = call_number p (plan_slices after) (call_of (words_at i calls) (drop from tapes));
+            tape = a.tape;
+            small = rw k.work a.small;
+            wide = rw k.cells a.wide;
+            answer = omega (arith, r.answers_long, k.answers);
+            slices = rw (same_both, k.history, r.history_long) (row_room (both_slices before));
           }
 
-      slices_are : now.lengths ++ now.stops ≡ slices_row one
-      unfolding one
-      slices_are = ap (λ (s : Slices). s.lengths ++ s.stops) x.slices
+      module _ (next : List ℕ) (now : Buffers) (x : Recorded i w p left next after now) (l : AsLong after now) where
+        one : Reply
+        one = reply_to w p left after
 
-      slices_long : length (now.lengths ++ now.stops) ≡ both_slices before
-      slices_long = rw (length-append, k.lengths, k.stops, r.as_long.lengths, r.as_long.stops)
+        left_is : run p (plan_slices after) (decoded (words_from i words) left) ≡ one ∷ run p (plan_slices now) (decoded (words_from (i + 1) words) next)
+        unfolding run decoded one
+        left_is = rw (first_words, ← x.tape, x.slices)
 
-      pub running_more : (m : ℕ) → m ≡ i + 1 → Running p calls tapes before count now next m
-      unfolding one
-      running_more m e =
-          let l = r.as_long in
-          let a = pass h in
-          let n = running_next h in
-          let b = both_slices before in
-          let room : i * b + b ≤ count * b = row_room b h in
-          let here : i * b ≤ length after.history = omega (arith, room, l.history, r.form.history_long) in
-          let next_row : (i + 1) * b ≡ i * b + length (now.lengths ++ now.stops) = rw slices_long (omega (arith, add-mul i 1 b, one-mul b)) in
-          let put-here : now.history ≡ put after.history (i * b) (now.lengths ++ now.stops) = rw (same_both) at x.history in
-          let left : length tapes - next ≡ length tapes - from - (words_at i calls).tape = omega (arith, x.tape) in
-          rw e (record {
-            within = omega arith;
-            as_long = record {
-              lengths = k.lengths ∙ l.lengths;
-              stops = k.stops ∙ l.stops;
-              work = k.work ∙ l.work;
-              cells = k.cells ∙ l.cells;
-              answers = k.answers ∙ l.answers;
-              history = k.history ∙ l.history;
-            };
-            form = r.form;
-            done = r.done ++ (one ∷ []);
-            number = rw length-append (omega (arith, r.number));
-            by_run = r.by_run ∙ rw (left_is, append_assoc r.done (one ∷ []) (run p (plan_slices now) (calls_left count (i + 1) next calls tapes)));
-            answers_so = rows_put answer_row r.done one after.answers now.answers _ (i * 4) ((i + 1) * 4) x.answers refl
-                (omega (arith, n.answer)) (rw (length_answer one.answer) (omega arith)) r.answers_so;
-            history_so = rows_put slices_row r.done one after.history now.history _ (i * b) ((i + 1) * b) put-here slices_are here next_row r.history_so;
-            readable = all_append r.readable (all_cons one_readable all_nil);
-            last = x.slices ∙ sym (last_more (plan_slices before) r.done one);
-            tapes_left = omega (arith, n.lent.tape, x.tape);
-            passes = rw left a.others;
-          })
+        one_readable : Readable (length before.lengths) (length before.stops) one
+        unfolding one
+        one_readable =
+            record {
+              lengths_long = ap (λ (s : Slices). length s.lengths) (sym x.slices) ∙ l.lengths ∙ k.lengths;
+              stops_long = ap (λ (s : Slices). length s.stops) (sym x.slices) ∙ l.stops ∙ k.stops;
+              number = call_number p (plan_slices after) (call_of w left);
+            }
 
-    nothing_left : i ≡ count → run p (plan_slices after) (calls_left count i from calls tapes) ≡ []
-    unfolding run decoded words_of
-    nothing_left e = rw (e, sub_self count)
+        slices_are : now.lengths ++ now.stops ≡ slices_row one
+        unfolding one
+        slices_are = ap (λ (s : Slices). s.lengths ++ s.stops) x.slices
 
-    pub running_end : (count ≡ count_of calls) × (well_formed calls tapes before ≡ true) → count ≤ i → AllRun count p calls tapes before after
-    running_end h g =
-        let l = r.as_long in
-        let e : i ≡ count = omega (arith, r.within) in
-        let none_left : run p (plan_slices before) (decoded (words_of count calls) tapes) ≡ r.done = r.by_run ∙ rw (nothing_left e) (append-nil r.done) in
-        let answers : after.answers ≡ rows answer_row r.done =
-        sym (take_all (i * 4) after.answers (omega (arith, l.answers, r.form.answers_long))) ∙ r.answers_so in
-        let history : after.history ≡ rows slices_row r.done =
-        sym (take_all (i * both_slices before) after.history (rw (e, l.history, r.form.history_long) (le_refl (count * both_slices before)))) ∙ r.history_so in
-        let replies : replies_in count after ≡ r.done =
-        rw (l.lengths, l.stops, answers, history, ← e, ← r.number) (recorded_rows (length before.lengths) (length before.stops) r.readable) in
-        let all : run p (plan_slices before) (calls_in calls tapes) ≡ replies_in count after = rw h.0 at none_left ∙ sym replies in
-        record {
-          formed = h.1;
-          count = h.0 ∙ sym (length_decoded (count_of calls) calls tapes);
-          claim = subst (λ (rs : List Reply). Claim p (plan_slices before) (calls_in calls tapes) rs) all (demand_3 p (plan_slices before) (calls_in calls tapes));
-          plain = answers ∙ ap (rows answer_row) (sym replies);
-          last = r.last ∙ ap (last_slices (plan_slices before)) (sym replies);
-        }
+        slices_long : length (now.lengths ++ now.stops) ≡ both_slices before
+        slices_long = rw (length-append, l.lengths, l.stops, k.lengths, k.stops)
+
+        pub running_more : Running p words tapes before now next (i + 1)
+        unfolding one
+        running_more =
+            let a = pass in
+            let n = running_next in
+            let b = both_slices before in
+            let room : i * b + b ≤ length words * b = row_room b in
+            let here : i * b ≤ length after.history = omega (arith, room, k.history, r.history_long) in
+            let next_row : (i + 1) * b ≡ i * b + length (now.lengths ++ now.stops) = rw slices_long (omega (arith, add-mul i 1 b, one-mul b)) in
+            let put-here : now.history ≡ put after.history (i * b) (now.lengths ++ now.stops) = rw (same_both) at x.history in
+            let fewer : length next ≡ length left - w.tape = rw x.tape (length-drop w.tape left) in
+            record {
+              within = omega arith;
+              answers_long = r.answers_long;
+              history_long = r.history_long;
+              done = r.done ++ (one ∷ []);
+              number = rw length-append (omega (arith, r.number));
+              by_run = r.by_run ∙ rw (left_is, append_assoc r.done (one ∷ []) (run p (plan_slices now) (decoded (words_from (i + 1) words) next)));
+              answers_so = rows_put answer_row r.done one after.answers now.answers _ (i * 4) ((i + 1) * 4) x.answers refl
+                  (omega (arith, n.answer)) (rw (length_answer one.answer) (omega arith)) r.answers_so;
+              history_so = rows_put slices_row r.done one after.history now.history _ (i * b) ((i + 1) * b) put-here slices_are here next_row r.history_so;
+              readable = all_append r.readable (all_cons one_readable all_nil);
+              last = x.slices ∙ sym (last_more (plan_slices before) r.done one);
+              passes = rw fewer a.others;
+            }
+
+    module _ (g : length words ≤ i) where
+      nothing_left : run p (plan_slices after) (decoded (words_from i words) left) ≡ []
+      unfolding run decoded
+      nothing_left = rw (drop_all i words g)
+
+      pub running_end : (calls : List ℕ) → words ≡ first_chunks 6 (count_of calls) calls → length words ≡ count_of calls → well_formed calls tapes before ≡ true
+          → AllRun (length words) p calls tapes before after
+      running_end calls e n h =
+          let j : i ≡ length words = omega (arith, r.within) in
+          let none_left : run p (plan_slices before) (decoded (map words_first words) tapes) ≡ r.done = r.by_run ∙ rw nothing_left (append-nil r.done) in
+          let answers : after.answers ≡ rows answer_row r.done =
+          sym (take_all (i * 4) after.answers (omega (arith, k.answers, r.answers_long))) ∙ r.answers_so in
+          let history : after.history ≡ rows slices_row r.done =
+          sym (take_all (i * both_slices before) after.history (rw (j, k.history, r.history_long) (le_refl (length words * both_slices before)))) ∙ r.history_so in
+          let replies : replies_in (length words) after ≡ r.done =
+          rw (k.lengths, k.stops, answers, history, ← j, ← r.number) (recorded_rows (length before.lengths) (length before.stops) r.readable) in
+          let all : run p (plan_slices before) (calls_in calls tapes) ≡ replies_in (length words) after = rw (words_are calls e n h) at none_left ∙ sym replies in
+          record {
+            formed = h;
+            count = n ∙ sym (length_decoded (count_of calls) calls tapes);
+            claim = subst (λ (rs : List Reply). Claim p (plan_slices before) (calls_in calls tapes) rs) all (demand_3 p (plan_slices before) (calls_in calls tapes));
+            plain = answers ∙ ap (rows answer_row) (sym replies);
+            last = r.last ∙ ap (last_slices (plan_slices before)) (sym replies);
+          }

@@ -1,6 +1,8 @@
 -- Lists of calls as words. A file uses only files above it in this list.
 -- what the words ask for and what is recorded
 pub mod Words
+-- what the lent slices hold
+pub mod Lent
 -- some lists and records
 pub mod WordCases
 -- crates below, passed on to those above

@@ -21,10 +21,6 @@ abbrev pub words_first : List ℕ → Words
 words_first calls =
     record { kind = get_or calls 0 0; limit = get_or calls 1 0; clock = get_or calls 2 0; tape = get_or calls 3 0; work = work_of (get_or calls 4 0) (get_or calls 5 0) }
 
--- the words of call i
-abbrev pub words_at : ℕ → List ℕ → Words
-words_at i calls = words_first (drop (i * 6) calls)
-
 -- n times six words
 unfoldable pub words_of : ℕ → List ℕ → List Words
 words_of zero calls = []

@@ -2,8 +2,9 @@
 // slices are recorded, is in specs/Words.antt.
 #![tactic(auto)]
 
-ghost use Rattle.std.specs.Prelude.{◌≡◌, ◌+◌, ◌*◌, ◌≤◌, length, drop, eqb};
-ghost use Rattle.call_words.specs.Words.{buffers, words_first, words_of, asks, kind_passes, call_passes, calls_pass, well_formed};
+ghost use Rattle.std.specs.Prelude.{◌≡◌, ◌*◌, map, eqb};
+ghost use Rattle.call_words.specs.Words.{words_first, asks, kind_passes, call_passes, calls_pass, well_formed};
+ghost use Rattle.call_words.specs.Lent.{of_buffers};
 
 // Of the crates below, passed on to those above.
 pub use planner::{Problem, Reduction, Refusal, Vehicle, Work, copy_part};
@@ -26,6 +27,23 @@ pub struct Words {
 }
 
 impl Words {
+    // What six words say.
+    pub fn of(call: &[u64; 6]) -> Words
+        ensures { result ≡ words_first call.now }
+    {
+        let [kind, limit, clock, tape, small, wide] = *call;
+        Words {
+            kind,
+            limit,
+            clock,
+            tape: tape as usize,
+            work: Work {
+                u16_cells: small as usize,
+                f64_cells: wide as usize,
+            },
+        }
+    }
+
     // What the words ask for, or nothing where no call has their kind.
     pub fn asks(self) -> Option<Kind>
         ensures { result ≡ asks self }
@@ -38,22 +56,15 @@ impl Words {
     }
 }
 
-// The words of call i.
-pub fn words_at(calls: &[u64], i: usize) -> Words
-    requires { i * 6 + 6 ≤ length calls.now }
-    ensures { result ≡ words_first (drop (i * 6) calls.now) }
-{
-    let at = i * 6;
-    Words {
-        kind: calls[at],
-        limit: calls[at + 1],
-        clock: calls[at + 2],
-        tape: calls[at + 3] as usize,
-        work: Work {
-            u16_cells: calls[at + 4] as usize,
-            f64_cells: calls[at + 5] as usize,
-        },
-    }
+// What a list of calls is lent to be written: the plan, the work cells, room for the answers, and for both slices after each call.
+#[derive(Drop)]
+pub struct Buffers<'a> {
+    pub lengths: &'a mut [u16],
+    pub stops: &'a mut [u16],
+    pub work: &'a mut [u16],
+    pub cells: &'a mut [f64],
+    pub answers: &'a mut [u64],
+    pub history: &'a mut [u16],
 }
 
 // Whether the kind is one of the two, and an eliminate has no M, K and tape.
@@ -77,13 +88,12 @@ fn call_passes(w: Words, there: Work) -> bool
 }
 
 // Whether each call passes, and their tapes have so many words together.
-fn calls_pass(calls: &[u64], count: usize, tapes: usize, there: Work) -> bool
-    requires { length calls.now ≡ count * 6 }
-    ensures { result ≡ calls_pass there (words_of count calls.now) tapes }
+fn calls_pass(calls: &[[u64; 6]], tapes: usize, there: Work) -> bool
+    ensures { result ≡ calls_pass there (map words_first calls.now) tapes }
 {
     let mut left = tapes;
-    for i in 0..count {
-        let w = words_at(calls, i);
+    for call in calls {
+        let w = Words::of(call);
         if !call_passes(w, there) {
             return false;
         }
@@ -104,21 +114,13 @@ fn is_product(whole: usize, count: usize, part: usize) -> bool
 
 // Whether the words are calls, and the numbers that they name fit what is lent.
 #[tactic(auto, unfolding(crate::specs::Words::well_formed))]
-pub fn well_formed(
-    lengths: &[u16],
-    stops: &[u16],
-    work: &[u16],
-    cells: &[f64],
-    answers: &[u64],
-    history: &[u16],
-    calls: &[u64],
-    tapes: &[u64],
-) -> bool
-    ensures { result ≡ well_formed calls.now tapes.now (buffers lengths.now stops.now work.now cells.now answers.now history.now) }
+pub fn well_formed(b: &Buffers, calls: &[u64], tapes: &[u64]) -> bool
+    ensures { result ≡ well_formed calls.now tapes.now (of_buffers b.now) }
 {
-    let count = calls.len() / 6;
-    calls.len() == count * 6
-        && answers.len() == count * 4
-        && is_product(history.len(), count, lengths.len() + stops.len())
-        && calls_pass(calls, count, tapes.len(), Work::of(work, cells))
+    let (words, rest) = calls.as_chunks::<6>();
+    let count = words.len();
+    rest.is_empty()
+        && b.answers.len() == count * 4
+        && is_product(b.history.len(), count, b.lengths.len() + b.stops.len())
+        && calls_pass(words, tapes.len(), Work::of(b.work, b.cells))
 }

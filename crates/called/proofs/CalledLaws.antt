@@ -1,13 +1,13 @@
 -- What a call of a list asks for, and that the parts it is lent have the numbers that the words say. Assumes nothing.
-use Prim.Native.Nat.{ℕ, ◌+◌, ◌-◌}
+use Prim.Native.Nat.{ℕ}
 use mathlib.Core.Path.{◌≡◌, refl, ap, ◌∙◌}
 use mathlib.Core.Bool.{Bool, true, false, cond}
 use Rattle.std.specs.Prelude.{Some, None}
 use Rattle.std.specs.Borrow.{Bor}
 use mathlib.Core.List.{List}
 use native.Mathlib.Omega.{arith}
-use lib.ListN.{length, take, drop}
-use lib.Seq.{length-take-le}
+use lib.ListN.{length, take}
+use lib.Seq.{length-take-le, take_all}
 use lib.Ieee.{Float}
 use lib.Dec.{eqb}
 use Rattle.minimise_call.specs.models.Problem.{Problem}
@@ -22,7 +22,7 @@ use Rattle.called.specs.Lent.{Lent}
 use Rattle.called.specs.declared.Change.{Change}
 use Rattle.called.specs.Changes.{change_of, change_asked}
 
-module _ (p : Problem) (s : Slices) (w : Words) (from : ℕ) (tapes work : List ℕ) (cells : List Float) (h : Lent w from (length tapes) (length work) (length cells)) (r : Reply) where
+module _ (p : Problem) (s : Slices) (w : Words) (tape : Bor (List ℕ)) (work : List ℕ) (cells : List Float) (h : Lent w (length tape.now) (length work) (length cells)) (r : Reply) where
   small_is : length (take w.work.u16_cells work) ≡ w.work.u16_cells
   small_is = length-take-le w.work.u16_cells work h.small
 
@@ -30,16 +30,13 @@ module _ (p : Problem) (s : Slices) (w : Words) (from : ℕ) (tapes work : List 
   wide_is = length-take-le w.work.f64_cells cells h.wide
 
   -- the call by its kind, as the code and as the words ask it
-  same_call : (t u : Bool) (tape : Bor (List ℕ)) → tape.now ≡ take w.tape (drop from tapes)
-      → change_of (change_asked (cond t (Some Minimise) (cond u (Some Eliminate) None)) w tape) w.work
-      ≡ cond t (minimise (record { limit = w.limit; clock = w.clock; tape = take w.tape (drop from tapes) }) w.work) (eliminate w.work)
-  same_call true u tape e = rw e refl
-  same_call false true tape e = refl
-  same_call false false tape e = refl
+  same_call : (t u : Bool) → change_of (change_asked (cond t (Some Minimise) (cond u (Some Eliminate) None)) w tape) w.work
+      ≡ cond t (minimise (record { limit = w.limit; clock = w.clock; tape = take w.tape tape.now }) w.work) (eliminate w.work)
+  same_call true u = rw (take_all w.tape tape.now (omega (arith, h.tape))) refl
+  same_call false true = refl
+  same_call false false = refl
 
-  pub called_so : (c : Change) (tape : Bor (List ℕ)) → tape.now ≡ take (from + w.tape - from) (drop from tapes) → c ≡ change_asked (asks w) w tape
+  pub called_so : (c : Change) → c ≡ change_asked (asks w) w tape
       → r ≡ call p s (change_of c (work_of (length (take w.work.u16_cells work)) (length (take w.work.f64_cells cells))))
-      → r ≡ call p s (call_of w (drop from tapes))
-  called_so c tape e f g =
-      let t : from + w.tape - from ≡ w.tape = omega arith in
-      g ∙ rw (f, small_is, wide_is) (ap (call p s) (same_call (eqb w.kind 0) (eqb w.kind 1) tape (e ∙ ap (λ (n : ℕ). take n (drop from tapes)) t)))
+      → r ≡ call p s (call_of w tape.now)
+  called_so c f g = g ∙ rw (f, small_is, wide_is) (ap (call p s) (same_call (eqb w.kind 0) (eqb w.kind 1)))

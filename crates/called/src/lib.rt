@@ -2,7 +2,7 @@
 // cells that its words say. What the words say is in call_words, specs/Words.antt.
 #![tactic(auto)]
 
-ghost use Rattle.std.specs.Prelude.{◌≡◌, length, drop};
+ghost use Rattle.std.specs.Prelude.{◌≡◌, length};
 ghost use Rattle.minimise_call.specs.models.Lent.{of_problem};
 ghost use Rattle.minimise_call.specs.planner.Run.{call};
 ghost use Rattle.minimise_call.specs.planner.Told.{reply_of, slices_of, work_of};
@@ -11,7 +11,7 @@ ghost use Rattle.called.specs.Lent.{Lent};
 ghost use Rattle.called.specs.Changes.{change_of, change_asked};
 
 use call_words::{Kind, Words};
-use minimise_call::{Reduction, Refusal, Vehicle};
+use minimise_call::{Reduction, Refusal};
 
 // Of the crates below, passed on to those above.
 pub use eliminate_call::eliminate;
@@ -56,23 +56,21 @@ fn change_asked(w: Words, tape: &[u64]) -> Change
     }
 }
 
-// The call that the words are, with its tape beginning at `from`.
+// The call that the words are, with its tape.
 pub fn run_call(
     lengths: &mut [u16],
     stops: &mut [u16],
     work: &mut [u16],
     cells: &mut [f64],
-    tapes: &[u64],
-    from: usize,
+    tape: &[u64],
     w: Words,
     problem: &Problem,
 ) -> Result<Reduction, Refusal>
-    requires { Lent w from (length tapes.now) (length work.old) (length cells.old) }
+    requires { Lent w (length tape.now) (length work.old) (length cells.old) }
     ensures { reply_of result lengths.new stops.new ≡ call (of_problem problem.now) (slices_of lengths.old stops.old)
-        (call_of w (drop from tapes.now)) }
+        (call_of w tape.now) }
 {
-    let end = from + w.tape;
-    let change = change_asked(w, &tapes[from..end]);
+    let change = change_asked(w, tape);
     let there = w.work;
     changed(
         change,

@@ -1,3 +1,3 @@
 -- Laws that this crate's proofs cite.
--- the loops over cells that move, and a lent part put back
+-- the cells after a rotation and a store, and after a copy within them
 pub mod ShiftLaws

@@ -6,7 +6,7 @@ ghost use Rattle.c_vehicle.specs.VehicleOf.{vehicle_of};
 ghost use Rattle.cobrwydd.specs.Lists.{RanList};
 
 use c_answers::Shape;
-use c_reports::ran_code;
+use c_reports::{Buffers, ran_code};
 use c_vehicle::vehicle_of;
 use worth_questions::{Customers, DistanceMatrix, Problem};
 
@@ -82,8 +82,14 @@ pub extern "C" fn cobrwydd_run_calls(
         roads: &roads,
         vehicle,
     };
-    let ran = c_reports::run_calls(
-        lengths, stops, work, cells, answers, history, calls, tapes, &problem,
-    );
+    let mut lent = Buffers {
+        lengths,
+        stops,
+        work,
+        cells,
+        answers,
+        history,
+    };
+    let ran = c_reports::run_calls(&mut lent, calls, tapes, &problem);
     ran_code(ran)
 }

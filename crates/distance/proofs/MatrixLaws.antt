@@ -35,8 +35,6 @@ larger_stays a b n h = go (is_nan b) refl
     go true e = nan_next a b e
     go false e = sym (max_first a b (lt_of_le_false a b n e h))
 
-pub ruleset larger_laws = (larger_next, larger_stays)
-
 -- ---- the loop over a list of numbers (specs/Seen)
 
 zero_number : is_nan 0f ≡ false

@@ -1,9 +1,7 @@
 // The distance matrix: n by n cells, row by row, and travel times likewise or none (distance/matrix.rs).
 #![tactic(auto)]
 
-ghost use Rattle.std.specs.Prelude.{◌≡◌, false, ◌<◌, ◌≤◌, ◌*◌, length};
-ghost use Rattle.std.specs.Float.Ieee.{is_nan};
-ghost use Rattle.place_record.specs.floats.Binary64.{max};
+ghost use Rattle.std.specs.Prelude.{◌≡◌, ◌<◌, ◌≤◌, ◌*◌, length};
 ghost use Rattle.place_record.specs.models.Problem.{Square};
 ghost use Rattle.distance.specs.Matrix.{cell, get, travel_time, largest};
 ghost use Rattle.distance.specs.Seen.{Seen, NextSeen};
@@ -45,15 +43,6 @@ pub fn travel_time(roads: &DistanceMatrix, from: usize, to: usize) -> f64
     }
 }
 
-// The larger of a number and the next: `float_functions::max` where the first is no NaN, by one comparison.
-#[tactic(auto, using(crate::proofs::MatrixLaws::larger_laws))]
-fn larger(most: f64, x: f64) -> f64
-    requires { is_nan most ≡ false }
-    ensures { result ≡ max most x }
-{
-    if x >= most { x } else { most }
-}
-
 // Where the next number stands that is as large as `most`, the largest so far, if there is one. No test waits for the one before.
 fn next_as_large(xs: &[f64], most: f64, start: usize) -> Option<usize>
     requires { Seen xs.now most start }
@@ -74,7 +63,7 @@ pub fn largest(xs: &[f64]) -> f64
     let mut most = 0.0;
     let mut i = 0;
     while let Some(at) = next_as_large(xs, most, i) {
-        most = larger(most, xs[at]);
+        most = xs[at];
         i = at + 1;
     }
     most

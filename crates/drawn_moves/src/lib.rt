@@ -17,10 +17,10 @@ pub use tail_exchange::{Demand, Draws, Instance, Sought, Vehicle, eject, other_t
 
 // A stop of route a and a stop of route b are drawn and exchanged, where both routes stay feasible.
 #[tactic(auto, using(crate::proofs::DrawnLaws::exchange_laws))]
-fn exchange_drawn(routes: &mut Routes, draws: Draws, a: usize, b: usize, given: &Instance)
-    requires movable { Movable given.now.fleet.net.roads.size routes.old draws }
+fn exchange_drawn(routes: &mut Routes, draws: &Draws, a: usize, b: usize, given: &Instance)
+    requires movable { Movable given.now.fleet.net.roads.size routes.old draws.now }
     requires between { Between (plan_of routes.old) a b }
-    ensures { Becomes routes.old (drawn_exchange (of_instance given.now) draws.entry.tape.now draws.entry.next a b (plan_of routes.old))
+    ensures { Becomes routes.old (drawn_exchange (of_instance given.now) draws.now.tape.now draws.now.next a b (plan_of routes.old))
         (total routes.old.lengths.now) routes.new }
 {
     let i = draws.draw(3, routes.lengths[a] as usize);
@@ -38,15 +38,15 @@ fn exchange_drawn(routes: &mut Routes, draws: Draws, a: usize, b: usize, given: 
 fn tails_drawn(
     routes: &mut Routes,
     work: &mut [u16],
-    draws: Draws,
+    draws: &Draws,
     a: usize,
     b: usize,
     given: &Instance,
 )
-    requires movable { Movable given.now.fleet.net.roads.size routes.old draws }
+    requires movable { Movable given.now.fleet.net.roads.size routes.old draws.now }
     requires has_room { length routes.old.stops.now ≤ length work.old }
     requires between { Between (plan_of routes.old) a b }
-    ensures { Becomes routes.old (drawn_tails (of_instance given.now) draws.entry.tape.now draws.entry.next a b (plan_of routes.old)) (total routes.old.lengths.now)
+    ensures { Becomes routes.old (drawn_tails (of_instance given.now) draws.now.tape.now draws.now.next a b (plan_of routes.old)) (total routes.old.lengths.now)
         routes.new }
 {
     let i = draws.draw(3, routes.lengths[a] as usize + 1);
@@ -65,15 +65,15 @@ fn tails_drawn(
 pub fn try_move(
     routes: &mut Routes,
     work: &mut [u16],
-    draws: Draws,
+    draws: &Draws,
     a: usize,
     b: usize,
     given: &Instance,
 )
-    requires movable { Movable given.now.fleet.net.roads.size routes.old draws }
+    requires movable { Movable given.now.fleet.net.roads.size routes.old draws.now }
     requires has_room { length routes.old.stops.now ≤ length work.old }
     requires between { Between (plan_of routes.old) a b }
-    ensures { Becomes routes.old (try_move (of_instance given.now) draws.entry.tape.now draws.entry.next a b (plan_of routes.old)) (total routes.old.lengths.now)
+    ensures { Becomes routes.old (try_move (of_instance given.now) draws.now.tape.now draws.now.next a b (plan_of routes.old)) (total routes.old.lengths.now)
         routes.new }
 {
     if draws.draw_bool(2) {

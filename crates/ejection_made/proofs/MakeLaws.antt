@@ -2,7 +2,7 @@
 use Prim.Native.Nat.{ℕ, ◌+◌, ◌-◌, ◌≤◌, ◌<◌}
 use native.Mathlib.Omega.{arith}
 use mathlib.Core.Path.{◌≡◌, ap, ◌∙◌}
-use mathlib.Core.List.{List}
+use mathlib.Core.List.{List, [], ◌∷◌, ◌++◌}
 use lib.ListN.{length, get_or}
 use borrow.Author.Rules.{rules}
 use Rattle.ejection.specs.laws.Edits.{length_erase, get_erase_before}
@@ -13,8 +13,7 @@ use Rattle.ejection.specs.plan.Slices.{stop_within, stop_route, route_within}
 use Rattle.ejection.specs.plan.Routes.{length_take_out, route_take_out}
 use Rattle.ejection.specs.declared.Ejection.{Ejection}
 use Rattle.ejection.specs.Ejected.{Inside, kept_one, kept_two}
-use Rattle.ejection_made.specs.declared.pool.Pool.{Pool}
-use Rattle.ejection_made.specs.Made.{Made, OnTop, same_on, make_one, make_two, gone_one, gone_two}
+use Rattle.ejection_made.specs.Made.{Made, Stack, OnTop, on_top, make_one, make_two, gone_one, gone_two}
 
 -- ---- after a stop has been taken out
 
@@ -55,16 +54,16 @@ module _ (routes : Plan) (e : Ejection) (h : Inside routes e) where
       }
 
 module _ {old : Routes} {e : Ejection} (h : Inside (plan_of old) e) where
-  pub made_one : {new : Routes} {before after : Pool} {c x : ℕ} → e.first ≡ e.second
+  pub made_one : {new : Routes} {before after : Stack} {c x : ℕ} → e.first ≡ e.second
       → Becomes old (put_in e.route e.pos c (take_out e.route e.first (plan_of old))) (total old.lengths.now) new
-      → x ≡ get_or (route e.route (plan_of old)) e.first 0 → OnTop before x after → Made old before c e new after
+      → x ≡ get_or (route e.route (plan_of old)) e.first 0 → after.items ≡ before.items ++ x ∷ [] → Made old before c e new after
   made_one {new} {before} {after} {c} {x} q g ex p =
+      let on : OnTop before x after = on_top p in
       record {
         plan = g.routes ∙ make_one (plan_of old) c e h q;
-        sum = omega (arith, g.sum, p.count);
-        top = p.stops ∙ rw (gone_one (plan_of old) e q, ex);
+        sum = omega (arith, g.sum, on.count);
+        top = on.stops ∙ rw (gone_one (plan_of old) e q, ex);
         kept = g.kept;
-        cells = p.kept;
       }
 
   -- ---- two leave; u is without the second
@@ -93,16 +92,17 @@ module _ {old : Routes} {e : Ejection} (h : Inside (plan_of old) e) where
         rw (t.routes, route_take_out e.route e.second (plan_of old) h.there)
         (get_erase_before e.second (route e.route (plan_of old)) e.first 0 (omega (arith, h.within)) q)
 
-    pub made_two : {new : Routes} {before middle after : Pool} {c x y : ℕ} → y ≡ get_or (route e.route (plan_of old)) e.second 0
+    pub made_two : {new : Routes} {before middle after : Stack} {c x y : ℕ} → y ≡ get_or (route e.route (plan_of old)) e.second 0
         → Becomes u (put_in e.route e.pos c (take_out e.route e.first (plan_of u))) (total u.lengths.now) new
-        → x ≡ get_or (route e.route (plan_of u)) e.first 0 → OnTop before x middle → OnTop middle y after → Made old before c e new after
+        → x ≡ get_or (route e.route (plan_of u)) e.first 0 → middle.items ≡ before.items ++ x ∷ [] → after.items ≡ middle.items ++ y ∷ [] → Made old before c e new after
     made_two {new} {before} {middle} {after} {c} {x} {y} ey g ex p r =
+        let below : OnTop before x middle = on_top p in
+        let on : OnTop middle y after = on_top r in
         record {
           plan = g.routes ∙ rw t.routes (make_two (plan_of old) c e h q);
-          sum = omega (arith, g.sum, t.sum, p.count, r.count, has_one old.lengths.now old.stops.now e.route e.second old.lent (second_stop (plan_of old) e h));
-          top = r.stops ∙ rw (p.stops, gone_two (plan_of old) e q, ey, ex, two_first);
+          sum = omega (arith, g.sum, t.sum, below.count, on.count, has_one old.lengths.now old.stops.now e.route e.second old.lent (second_stop (plan_of old) e h));
+          top = on.stops ∙ rw (below.stops, gone_two (plan_of old) e q, ey, ex, two_first);
           kept = keeps_on t.kept g.kept;
-          cells = same_on p.kept r.kept;
         }
 
 pub ruleset out_laws = (rules, out_room, out_position, out_in)

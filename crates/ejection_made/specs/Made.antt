@@ -1,9 +1,10 @@
--- The ejection made on the plan and on the pool: two edits of the plan for one stop, three for two; and the pool in its cells. Assumes nothing.
-use Rattle.std.specs.Prelude.{ℕ, zero, suc, ◌+◌, ◌-◌, ◌≤◌, ◌<◌, ◌≡◌, refl, get_or, set}
-use Rattle.std.proofs.Common.{◌∙◌, not-suc-le-zero, add-one, arith, eq-eqb, ne_eqb, get_or-set_other}
-use mathlib.Core.List.{List, [], ◌∷◌, ◌++◌, reverse}
-use Rattle.std.proofs.Math.ListN.{length, length-set}
-use Rattle.std.proofs.Math.Seq.{get_or-set_same, set-set}
+-- The ejection made on the plan and on the pool: two edits of the plan for one stop, three for two; and the pool. Assumes nothing.
+use Rattle.std.specs.Prelude.{ℕ, suc, ◌+◌, ◌-◌, ◌<◌, ◌≡◌, get_or, set, take}
+use Rattle.std.proofs.Common.{sym, ap, ◌∙◌, le_refl, arith, eq-eqb, ne_eqb}
+use mathlib.Core.List.{List, [], ◌∷◌, ◌++◌, reverse, reverse-append}
+use Rattle.std.proofs.Math.ListN.{length, length-set, length-append}
+use Rattle.std.proofs.Math.Seq.{get_or-set_same, set-set, take-suc, take_all}
+use Rattle.arrayvec.specs.ArrayVec.{ArrayVec}
 use Rattle.ejection.specs.laws.Edits.{erase}
 use Rattle.ejection.specs.plan.Plan.{Plan, route, total, put_in, take_out}
 use Rattle.ejection.specs.plan.Given.{plan_of, Keeps}
@@ -11,7 +12,6 @@ use Rattle.ejection.specs.plan.declared.routes.Routes.{Routes}
 use Rattle.ejection.specs.declared.Ejection.{Ejection}
 use Rattle.ejection.specs.Eject.{ejected, make_room, gone}
 use Rattle.ejection.specs.Ejected.{Inside, kept_one, kept_two}
-use Rattle.ejection_made.specs.declared.pool.Pool.{Pool}
 
 -- ---- the plan
 
@@ -42,47 +42,34 @@ module _ (routes : Plan) (c : ℕ) (e : Ejection) (h : Inside routes e) where
 
 -- ---- the pool
 
--- the pool in the first m cells, the one in the last of them on top
-unfoldable pub stack : List ℕ → ℕ → List ℕ
-stack cells zero = []
-stack cells (suc m) = get_or cells m 0 ∷ stack cells m
+-- as the code holds it, the stop on top last
+abbrev pub Stack : Type 0
+Stack = ArrayVec ℕ
 
 -- the stops that wait, the one on top first
-abbrev pub pooled : Pool → List ℕ
-pooled p = stack p.cells.now p.count
+abbrev pub pooled : Stack → List ℕ
+pooled pool = reverse pool.items
 
--- The cells are still the same ones.
-pub record SameCells (old new : Pool) : Type 0 where
-  pub same : new.cells.ghost_name ≡ old.cells.ghost_name
-  pub size : length new.cells.now ≡ length old.cells.now
-
-pub same_on : {a b c : Pool} → SameCells a b → SameCells b c → SameCells a c
-same_on f g = record { same = g.same ∙ f.same; size = g.size ∙ f.size }
-
--- In the same cells c lies on what waits in `under`, and nothing on c.
-pub record OnTop (under : Pool) (c : ℕ) (over : Pool) : Type 0 where
+-- c lies on what waits in `under`, and nothing on c
+pub record OnTop (under : Stack) (c : ℕ) (over : Stack) : Type 0 where
   pub stops : pooled over ≡ c ∷ pooled under
-  pub count : over.count ≡ under.count + 1
-  pub kept : SameCells under over
-
--- a cell above the pool is none of it
-pub stack_above : (cells : List ℕ) (m i x : ℕ) → m ≤ i → stack (set cells i x) m ≡ stack cells m
-unfolding stack
-stack_above cells zero i x h = refl
-stack_above cells (suc m) i x h = rw (get_or-set_other cells i m x 0 (λ e. omega arith), stack_above cells m i x (omega arith))
+  pub count : length over.items ≡ length under.items + 1
 
 -- a push
-pub stack_push : (cells : List ℕ) (m x : ℕ) → m < length cells → stack (set cells m x) (m + 1) ≡ x ∷ stack cells m
-unfolding stack
-stack_push cells m x h = rw (add-one m, get_or-set_same cells m x 0 h, stack_above cells m m x (omega arith))
+pub stack_push : (pool : Stack) (x : ℕ) → pooled (record { items = pool.items ++ x ∷ [] }) ≡ x ∷ pooled pool
+stack_push pool x = reverse-append pool.items (x ∷ [])
 
 -- a pop
-pub stack_pop : (cells : List ℕ) (m : ℕ) → 0 < m → stack cells m ≡ get_or cells (m - 1) 0 ∷ stack cells (m - 1)
-unfolding stack
-stack_pop cells zero h = absurd (not-suc-le-zero h)
-stack_pop cells (suc m) h =
-    let e : suc m - 1 ≡ m = omega arith in
-    rw e
+pub stack_pop : (pool : Stack) → 0 < length pool.items
+    → pooled pool ≡ get_or pool.items (length pool.items - 1) 0 ∷ pooled (record { items = take (length pool.items - 1) pool.items })
+stack_pop pool h =
+    let last = length pool.items - 1 in
+    let e : length pool.items ≡ suc last = omega (arith, h) in
+    ap reverse (sym (take_all (length pool.items) pool.items (le_refl _)) ∙ ap (λ (n : ℕ). take n pool.items) e ∙ take-suc pool.items last 0 (omega (arith, h)))
+    ∙ stack_push (record { items = take last pool.items }) (get_or pool.items last 0)
+
+pub on_top : {under over : Stack} {c : ℕ} → over.items ≡ under.items ++ c ∷ [] → OnTop under c over
+on_top {under} {c = c} e = record { stops = ap reverse e ∙ stack_push under c; count = ap length e ∙ length-append under.items (c ∷ []) }
 
 -- those ejected lie on top, the later one first
 pub gone_one : (routes : Plan) (e : Ejection) → e.first ≡ e.second → reverse (gone routes e) ≡ get_or (route e.route routes) e.first 0 ∷ []
@@ -99,9 +86,8 @@ gone_two routes e s =
 -- ---- both
 
 -- c has gone into the routes by an ejection: what stands in the same slices then, plan and pool together one stop more
-pub record Made (old : Routes) (before : Pool) (c : ℕ) (e : Ejection) (new : Routes) (after : Pool) : Type 0 where
+pub record Made (old : Routes) (before : Stack) (c : ℕ) (e : Ejection) (new : Routes) (after : Stack) : Type 0 where
   pub plan : plan_of new ≡ make_room (plan_of old) c e
-  pub sum : total new.lengths.now + after.count ≡ total old.lengths.now + before.count + 1
+  pub sum : total new.lengths.now + length after.items ≡ total old.lengths.now + length before.items + 1
   pub top : pooled after ≡ reverse (gone (plan_of old) e) ++ pooled before
   pub kept : Keeps old new
-  pub cells : SameCells before after

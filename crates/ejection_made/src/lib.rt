@@ -1,22 +1,22 @@
 // The ejection made: the plan is edited in place, and those who leave go onto the pool in route order.
 #![tactic(auto)]
 
-pub mod pool;
-
 ghost use Rattle.std.specs.Prelude.{◌≡◌, ◌+◌, ◌<◌, length, slice_index};
 ghost use Rattle.ejection.specs.plan.Plan.{HasPosition, HasStop, route, total, put_in, take_out};
 ghost use Rattle.ejection.specs.plan.Given.{plan_of, Becomes};
 ghost use Rattle.ejection.specs.Ejected.{Inside};
 ghost use Rattle.ejection_made.specs.Made.{Made};
 
+use arrayvec::ArrayVec;
 use ejection::routes::Routes;
-use pool::Pool;
 
 // Of the crates below, passed on to those above.
 pub use ejection::{
-    Counts, Ejection, LocalSearchNext, Pick, Reduction, constrained, copy_part, pick_after, rounds,
-    routes,
+    Counts, Ejection, Instance, LocalSearchNext, Pick, Reduction, pick_after, rounds, routes,
 };
+
+// The stops that wait for a place, the one on top last.
+pub type Pool = ArrayVec<u16, 256>;
 
 // The stop at i leaves route k, and c goes in at pos of what is left. Returns the stop that left.
 fn replace(routes: &mut Routes, k: usize, i: usize, pos: usize, c: u16) -> u16
@@ -34,7 +34,7 @@ fn replace(routes: &mut Routes, k: usize, i: usize, pos: usize, c: u16) -> u16
 pub fn make_one(routes: &mut Routes, pool: &mut Pool, e: Ejection, c: u16)
     requires inside { Inside (plan_of routes.old) e }
     requires one { e.first ≡ e.second }
-    requires has_room { pool.old.count < length pool.old.cells.now }
+    requires has_room { length pool.old.items < 256 }
     ensures { Made routes.old pool.old c e routes.new pool.new }
 {
     let x = replace(routes, e.route, e.first, e.pos, c);
@@ -45,7 +45,7 @@ pub fn make_one(routes: &mut Routes, pool: &mut Pool, e: Ejection, c: u16)
 pub fn make_two(routes: &mut Routes, pool: &mut Pool, e: Ejection, c: u16)
     requires inside { Inside (plan_of routes.old) e }
     requires two { e.first < e.second }
-    requires has_room { pool.old.count + 1 < length pool.old.cells.now }
+    requires has_room { length pool.old.items + 1 < 256 }
     ensures { Made routes.old pool.old c e routes.new pool.new }
 {
     let y = routes.take_out(e.route, e.second);

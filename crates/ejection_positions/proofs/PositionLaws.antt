@@ -5,7 +5,6 @@ use mathlib.Core.Bool.{Bool, true, false}
 use mathlib.Core.List.{List, []}
 use Rattle.std.proofs.Common.{Option}
 use lib.ListN.{length}
-use lib.Ieee.{Float}
 use Rattle.ejection.specs.laws.Loops.{loop, loop_same}
 use Rattle.ejection.specs.models.Problem.{Problem, of_demand, problem_of}
 use Rattle.ejection.specs.route_cost.Route.{insertion_cost}

@@ -73,7 +73,7 @@ fn try_positions(
         (pass_in_kept (of_fleet fleet.now) c out.failed out.route out.first out.second left.now (held (length left.now) times.now)) best }
 {
     let mut found = best;
-    for pos in 0..left.len() + 1 {
+    for pos in 0..=left.len() {
         found = try_in_kept(left, times, out, pos, c, found, fleet);
     }
     found

@@ -1,32 +1,16 @@
 -- Laws of the search for an ejection, of one stop or only then of two, each from the facts that the code has where it needs it. Assumes nothing.
-use Prim.Native.Nat.{ℕ, ◌≤◌, ◌<◌}
-use native.Mathlib.Omega.{arith}
-use mathlib.Core.Path.{◌≡◌, ap}
+use Prim.Native.Nat.{ℕ}
+use mathlib.Core.Path.{◌≡◌}
 use mathlib.Core.Bool.{true, false}
 use mathlib.Core.List.{List}
 use Rattle.std.proofs.Common.{Option, None, Some}
 use Rattle.std.specs.Option.{MatchOption}
 use Rattle.route_ejection.specs.models.Problem.{Problem}
 use Rattle.route_ejection.specs.local_search.Options.{or_else}
-use lib.ListN.{length}
-use Rattle.route_ejection.specs.plan.Plan.{Plan, route}
-use Rattle.route_ejection.specs.plan.Slices.{length_split, length_route, route_within}
-use Rattle.route_ejection.specs.plan.Given.{plan_of}
-use Rattle.route_ejection.specs.plan.declared.routes.Routes.{Routes}
+use Rattle.route_ejection.specs.plan.Plan.{Plan}
 use Rattle.route_ejection.specs.ejection.declared.Ejection.{Ejection}
 use Rattle.route_ejection.specs.ejection.Eject.{eject_one, eject_two, eject}
 use Rattle.ejection_search.specs.Some.{eject_some}
-
--- a route is no longer than the stops
-pub route_room : (lent : Routes) (k : ℕ) {r : List ℕ} → k < length (plan_of lent) → r ≡ route k (plan_of lent) → length r ≤ length lent.stops.now
-route_room lent k h e =
-    omega (
-      arith,
-      ap length e,
-      length_route lent.lengths.now lent.stops.now lent.lent.inside k,
-      route_within lent.lengths.now k (rw length_split at h),
-      lent.lent.inside,
-    )
 
 -- P is what is known of the answer x where no single one works
 module _ (p : Problem) (routes : Plan) (c : ℕ) (failures : List ℕ) (x : Option Ejection) (P : Type 0) where

@@ -23,7 +23,7 @@ use Rattle.elimination_attempt.specs.elimination_moves.Eliminated.{attempt_reduc
 
 module _ (lent : Routes) (last x : Option Pick) (e : x ≡ next_pick lent.lengths.now last) (pick : Pick) (h : x ≡ Some pick) (p : Problem) (work : List ℕ) (g : Eliminating p lent work) where
   pub next_attempted : Attempted p lent pick.route
-  next_attempted = record { admitted = g.admitted; planned = g.planned; there = pick_there lent.lengths.now last x e pick h }
+  next_attempted = record { planned = g.planned; there = pick_there lent.lengths.now last x e pick h }
 
   module _ (b : Bool) (new : Routes) (t : then_some b (split (fewer lent.lengths.now new.lengths.now) new.stops.now) ≡ without_route p (plan_of lent) pick.route) (held : Left b lent new) where
     told : (v : Bool) → b ≡ v → then_some v (split (fewer lent.lengths.now new.lengths.now) new.stops.now) ≡ without_route p (plan_of lent) pick.route

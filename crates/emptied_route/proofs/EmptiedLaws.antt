@@ -45,11 +45,8 @@ module _ (lent : Routes) (r : ℕ) {t : List ℕ} (e : t ≡ route r (plan_of le
   keep_count : length t ≡ get_or lent.lengths.now r 0
   keep_count = ap length e ∙ length_route lent.lengths.now lent.stops.now lent.lent.inside r
 
-  pub keep_end : (left : List ℕ) → get_or lent.lengths.now r 0 ≤ length left → length t ≤ length left
-  keep_end left k = omega (arith, keep_count)
-
-  pub keep_done : (left : List ℕ) → take (get_or lent.lengths.now r 0) (t ++ drop (length t) left) ≡ route r (plan_of lent)
-  keep_done left = take_at t (drop (length t) left) (get_or lent.lengths.now r 0) keep_count ∙ e
+  pub keep_end : (cells : List ℕ) → get_or lent.lengths.now r 0 ≤ length cells → length t ≤ length cells
+  keep_end cells k = omega (arith, keep_count)
 
 -- ---- route r goes
 
@@ -58,16 +55,12 @@ Found None = ⊥
 Found (Some added) = Unit
 
 module _ (p : Problem) (lent : Routes) (r : ℕ) (g : Attempted p lent r)
-    (left : List ℕ) (c : take (get_or lent.lengths.now r 0) left ≡ route r (plan_of lent))
+    (part : List ℕ) (c : part ≡ route r (plan_of lent))
     (lent₁ : Routes) (e : lent₁.lengths.now ≡ erase r lent.lengths.now ++ 0 ∷ [])
     (h : Holds (erase r (plan_of lent)) (total lent.lengths.now - get_or lent.lengths.now r 0) (erase r lent.lengths.now) lent₁.stops.now) (k : Keeps lent lent₁) where
   -- all lengths but the last
   abbrev pub front : List ℕ
   front = take (length lent₁.lengths.now - 1) lent₁.lengths.now
-
-  -- the stops of route r
-  abbrev pub part : List ℕ
-  part = take (get_or lent.lengths.now r 0) left
 
   long : length (erase r lent.lengths.now) ≡ length lent.lengths.now - 1
   long = omega (arith, length_erase r lent.lengths.now g.there)

@@ -2,7 +2,7 @@
 use Rattle.std.specs.Prelude.{ℕ, ◌-◌, ◌<◌, ◌≡◌, Bool, true, false, List, [], ◌∷◌, ◌++◌, length, take, Float}
 use Rattle.std.specs.Prelude.{Option}
 use Rattle.route_removal.specs.laws.Edits.{erase}
-use Rattle.moved_stops.specs.models.Problem.{Problem, Admitted}
+use Rattle.moved_stops.specs.models.Problem.{Problem}
 use Rattle.route_removal.specs.plan.Plan.{Plan, route, total}
 use Rattle.route_removal.specs.plan.Given.{plan_of}
 use Rattle.route_removal.specs.plan.declared.routes.Routes.{Routes}
@@ -18,7 +18,6 @@ of_elimination e = of_instance e.instance.now
 
 -- route r is to go from a plan
 pub record Attempted (p : Problem) (lent : Routes) (r : ℕ) : Type 0 where
-  pub admitted : Admitted p
   pub planned : Planned p.roads.size (plan_of lent)
   pub there : r < length lent.lengths.now
 

@@ -1,7 +1,7 @@
 // A route of the plan goes and its stops are moved into the others, where that gains (local_search/route_elimination.rs, the body of `for r in order`).
 #![tactic(auto)]
 
-ghost use Rattle.std.specs.Prelude.{◌≡◌, None, true, ◌+◌, ◌<◌, ◌≤◌, length, get_or, take};
+ghost use Rattle.std.specs.Prelude.{◌≡◌, None, true, ◌+◌, ◌<◌, ◌≤◌, length, get_or};
 ghost use Rattle.route_removal.specs.laws.All.{All};
 ghost use Rattle.route_removal.specs.plan.Plan.{Lent, split, route, total};
 ghost use Rattle.route_removal.specs.plan.Given.{plan_of, Keeps};
@@ -17,8 +17,8 @@ pub mod elimination;
 
 pub use elimination::Elimination;
 use moved_stops::move_all;
+use route_removal::erase_route;
 use route_removal::routes::Routes;
-use route_removal::{copy_part, erase_route};
 
 // Of the crates below, passed on to those above.
 pub use moved_stops::{
@@ -27,14 +27,16 @@ pub use moved_stops::{
 };
 pub use route_removal::routes;
 
-// The stops of route r become the first of the cells.
-fn keep_route(left: &mut [u16], routes: &Routes, r: usize)
+// The stops of route r become the first of the cells. Returns these cells.
+fn keep_route<'a>(cells: &'a mut [u16], routes: &Routes, r: usize) -> &'a mut [u16]
     requires there { r < length routes.now.lengths.now }
-    requires room { get_or routes.now.lengths.now r 0 ≤ length left.old }
-    ensures { take (get_or routes.now.lengths.now r 0) left.new ≡ route r (plan_of routes.now) }
+    requires room { get_or routes.now.lengths.now r 0 ≤ length cells.old }
+    ensures { result.now ≡ route r (plan_of routes.now) }
 {
     let route = routes.route(r);
-    left[..route.len()].copy_from_slice(route);
+    let left = &mut cells[..route.len()];
+    left.copy_from_slice(route);
+    left
 }
 
 // The stops that are left go to their places in the routes.
@@ -67,15 +69,14 @@ pub fn empty_route(routes: &mut Routes, r: usize, saved: f64, given: &Eliminatio
     ensures accepted { result ≡ true → Accepted routes.old.lengths.now routes.new.lengths.now }
     ensures kept { Keeps routes.old routes.new }
 {
-    let mut left = [0u16; 256];
-    let count = routes.lengths[r] as usize;
-    keep_route(&mut left, routes, r);
+    let mut cells = [0u16; 256];
+    let left = keep_route(&mut cells, routes, r);
     erase_route(routes, r);
     let last = routes.lengths.len() - 1;
     let sum = move_into(
         &mut routes.lengths[..last],
         routes.stops,
-        &mut left[..count],
+        left,
         saved,
         given.instance,
     );

@@ -7,8 +7,8 @@ ghost use Rattle.std.specs.Prelude.{◌≡◌, length};
 // Of the crates below, passed on to those above.
 pub use local_search::feasible::instance;
 pub use local_search::{
-    RouteEval, Vehicle, break_schedule_schedule, evaluation_check, route_cost_gain_floor,
-    route_cost_route_distance,
+    Problem, RouteEval, break_schedule_schedule, evaluation_check, route_cost_gain_floor,
+    route_cost_route_distance, routes,
 };
 pub use refusal::Refusal;
 

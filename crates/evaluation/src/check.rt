@@ -6,8 +6,7 @@ ghost use Rattle.evaluation.specs.Check.{set_out, departure, reach, reach_all, h
 
 use crate::eval::{is_feasible, limited};
 use break_schedule::{
-    Customer, DistanceMatrix, Network, RouteLimits, TimeWindow, VehicleBreak, customer_at, get,
-    schedule, travel_time,
+    Customer, DistanceMatrix, Network, RouteLimits, customer_at, get, schedule, travel_time,
 };
 
 // A route as far as it has been driven: the time its last stop is left, the distance so far, and that stop.

@@ -1,70 +1,41 @@
--- What the branches of `abs`, `is_finite`, `is_sign_negative` and `total_key` return is what their definitions say.
+-- What the kit's `abs` and `is_finite` and the branches of `is_sign_negative` and `total_key` return is what their definitions say.
 -- Assumes nothing.
-use mathlib.Core.Path.{◌≡◌, refl, sym, ◌∙◌}
+use mathlib.Core.Path.{◌≡◌, refl, sym}
 use Prim.Native.Nat.{ℕ, zero, suc, ◌+◌, ◌-◌, ◌*◌, ◌^◌, ◌≤◌, ◌<◌}
 use native.Mathlib.Nat.{mul-pos, zero-lt-suc}
 use native.Mathlib.Omega.{arith}
-use mathlib.Core.Bool.{Bool, true, false, not, true≢false, false≢true}
+use mathlib.Core.Bool.{Bool, true, false, false≢true}
 use lib.IntN.{ℤ, pos}
 use lib.Dec.{T, ltb}
-use lib.Ieee.{Float, nan, inf, fin, binary64, up, down, sub, div, lt, le, eq, fits}
-use lib.Ieee.{of_bits, to_bits, is_nan, ne}
+use lib.Ieee.{Float, nan, inf, fin, binary64, up, down, div, lt, eq, fits}
+use lib.Ieee.{of_bits, to_bits, is_nan}
 use lib.Ieee.Fits.{up_pos}
 use lib.Ieee.Bits.{is_true, is_false, to_bits-lt}
 use borrow.Author.Tests.{lt-ltb, le-ltb}
-use Rattle.floats.specs.Binary64.{◌⊖◌, ◌⊘◌, 0f, 1f, +∞, is_finite, abs, is_sign_negative, total_key, total_less}
+use Rattle.std.specs.Float.{float_is_finite, float_with_sign}
+use Rattle.floats.specs.Binary64.{◌⊘◌, 0f, 1f, is_finite, abs, is_sign_negative, total_key, total_less}
 use Rattle.floats.specs.Order.{plus_zero, passed, failed, le→AtMost, AtMost→le, Less→lt, eq→le, eq_sym}
 use Rattle.floats.specs.Order.{eq_of_le}
-use Rattle.floats.specs.Exact.{zero_exp}
-use Rattle.floats.specs.Sign.{fits_sign, signs_le, clear_not_below}
-use Rattle.floats.specs.Plain.{add_zero_left}
-use Rattle.floats.specs.Functions.{nan_tested}
+use Rattle.floats.specs.Sign.{clear_not_below}
 use Rattle.floats.proofs.Bits.{total_less_keys}
 
-sign_set : (m : ℕ) (e : ℤ) → le (fin true m e) 0f ≡ true
-unfolding of_bits
-sign_set m e = is_true (le (fin true m e) plus_zero) (signs_le (fin true m e) plus_zero refl refl)
+-- The kit's functions are these, case by case.
+pub abs_kit : {y : Float} (x : Float) → y ≡ float_with_sign false x → y ≡ abs x
+unfolding abs float_with_sign
+abs_kit nan e = e
+abs_kit (inf s) e = e
+abs_kit (fin s m n) e = e
 
--- A value that is not zero or less has its sign clear already.
-pub abs_above : (x : Float) → le x 0f ≡ false → x ≡ abs x
-unfolding abs le of_bits
-abs_above nan h = refl
-abs_above (inf true) h = absurd (true≢false h)
-abs_above (inf false) h = refl
-abs_above (fin true m e) h = absurd (true≢false (sym (sign_set m e) ∙ h))
-abs_above (fin false m e) h = refl
+pub finite_kit : {t : Bool} (x : Float) → t ≡ float_is_finite x → t ≡ is_finite x
+unfolding is_finite float_is_finite
+finite_kit nan e = e
+finite_kit (inf s) e = e
+finite_kit (fin s m n) e = e
 
+-- A number equals zero exactly where its digits are 0.
 above_or_zero : (a c : ℕ) → 0 < a → a * 1 + 0 * c ≤ 0 * c + 0 * 1 → ⊥
 above_or_zero a c A h = omega arith
 
-positive : (m : ℕ) (e : ℤ) → le (fin false (suc m) e) 0f ≡ true → ⊥
-unfolding of_bits
-positive m e h =
-    above_or_zero (suc m * up e) (down e) (mul-pos (zero-lt-suc m) (up_pos e))
-    (le→AtMost false (suc m) e false 0 (pos 0) (passed (le (fin false (suc m) e) plus_zero) h))
-
--- 0.0 - x is exact, and +0 for either zero.
-pub abs_below : (x : Float) → fits binary64 x ≡ true → le x 0f ≡ true → 0f ⊖ x ≡ abs x
-unfolding abs sub le of_bits
-abs_below nan f h = refl
-abs_below (inf true) f h = refl
-abs_below (inf false) f h = absurd (false≢true h)
-abs_below (fin true m e) f h =
-    add_zero_left (fin false m e) tt (passed (fits binary64 (fin false m e)) (fits_sign binary64 false true m e ∙ f))
-abs_below (fin false zero e) f h = rw (zero_exp binary64 false e (passed (fits binary64 (fin false zero e)) f))
-abs_below (fin false (suc m) e) f h = absurd (positive m e h)
-
--- A number is below +∞ in size, and nothing else is.
-pub finite_tested : (x a t : Float) → a ≡ abs x → t ≡ +∞ → lt a t ≡ is_finite x
-unfolding abs is_finite lt
-finite_tested x a t p q = rw (p, q) (go x)
-  where
-    go : (x : Float) → lt (abs x) +∞ ≡ is_finite x
-    go nan = refl
-    go (inf s) = refl
-    go (fin s m e) = refl
-
--- A number equals zero exactly where its digits are 0.
 zero_or_under : (a c : ℕ) → 0 < a → 0 * c + a * 1 ≤ 0 * 1 + 0 * c → ⊥
 zero_or_under a c A h = omega arith
 
@@ -111,13 +82,10 @@ sign_of_other (fin false (suc m) e) h =
 
 -- ---- `total_key`
 
-pub key_of_nan : (x : Float) → ne x x ≡ true → 0xfff8_0000_0000_0000 ≡ total_key x
-key_of_nan x h = go x (nan_tested x true h)
-  where
-    go : (x : Float) → is_nan x ≡ true → 0xfff8_0000_0000_0000 ≡ total_key x
-    go nan e = unfold total_key to_bits in refl
-    go (inf s) e = absurd (unfold is_nan in false≢true e)
-    go (fin s m n) e = absurd (unfold is_nan in false≢true e)
+pub key_of_nan : (x : Float) → is_nan x ≡ true → 0xfff8_0000_0000_0000 ≡ total_key x
+key_of_nan nan h = unfold total_key to_bits in refl
+key_of_nan (inf s) h = absurd (unfold is_nan in false≢true h)
+key_of_nan (fin s m n) h = absurd (unfold is_nan in false≢true h)
 
 module _ (x : Float) where
   pub key_clear : to_bits binary64 x < 2 ^ 63 → to_bits binary64 x + 2 ^ 63 ≡ total_key x
@@ -128,13 +96,10 @@ module _ (x : Float) where
   unfolding total_key
   key_set h = rw (le-ltb (to_bits binary64 x) (2 ^ 63) h)
 
-  pub bits_asked : ne x x ≡ false → T (not (is_nan x))
-  bits_asked h = rw (nan_tested x false h) tt
-
   pub key_bits : fits binary64 x ≡ true → to_bits binary64 x ≤ 2 ^ 64 - 1
   key_bits h = omega (arith, to_bits-lt binary64 x (passed (fits binary64 x) h))
 
-pub ruleset key_laws = (bits_asked, key_of_nan, key_clear, key_set, key_bits)
+pub ruleset key_laws = (key_of_nan, key_clear, key_set, key_bits)
 
 pub keys_tested : (x y : Float) (a b : ℕ) → fits binary64 x ≡ true → fits binary64 y ≡ true → a ≡ total_key x → b ≡ total_key y → ltb a b ≡ total_less x y
 keys_tested x y a b h k e f = rw (e, f) (sym (total_less_keys x y (passed (fits binary64 x) h) (passed (fits binary64 y) k)))

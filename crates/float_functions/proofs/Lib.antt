@@ -1,2 +1,2 @@
--- What the branches of the code return.
+-- What the kit's functions and the branches of the code return.
 pub mod Branches

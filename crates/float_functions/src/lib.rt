@@ -15,40 +15,30 @@ pub fn infinity() -> f64
 pub fn abs(x: f64) -> f64
     ensures { result ≡ abs x }
 {
-    if x <= 0.0 { 0.0 - x } else { x }
+    x.abs()
 }
 
 // Whether x is a number: neither an infinity nor a NaN.
 pub fn is_finite(x: f64) -> bool
     ensures { result ≡ is_finite x }
 {
-    abs(x) < infinity()
+    x.is_finite()
 }
 
 // The larger of a and b. Where exactly one is a NaN the other is returned; b where they are equal.
+#[tactic(auto, unfolding(floats::specs::Binary64::max))]
 pub fn max(a: f64, b: f64) -> f64
     ensures { result ≡ max a b }
 {
-    if a > b {
-        a
-    } else if b != b { // a NaN is never the larger
-        a
-    } else {
-        b
-    }
+    if a > b || b.is_nan() { a } else { b } // a NaN is never the larger
 }
 
 // The smaller of a and b. Where exactly one is a NaN the other is returned; b where they are equal.
+#[tactic(auto, unfolding(floats::specs::Binary64::min))]
 pub fn min(a: f64, b: f64) -> f64
     ensures { result ≡ min a b }
 {
-    if a < b {
-        a
-    } else if b != b { // a NaN is never the smaller
-        a
-    } else {
-        b
-    }
+    if a < b || b.is_nan() { a } else { b } // a NaN is never the smaller
 }
 
 // Whether x has its sign bit set, as -0.0 has it. At a NaN, whose sign has no meaning here, false.
@@ -62,7 +52,7 @@ pub fn is_sign_negative(x: f64) -> bool
 fn total_key(x: f64) -> u64
     ensures { result ≡ total_key x }
 {
-    if x != x {
+    if x.is_nan() {
         return 0xfff8_0000_0000_0000;
     }
     let bits = f64::to_bits(x);

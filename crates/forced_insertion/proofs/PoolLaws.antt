@@ -1,5 +1,5 @@
 -- Laws of a stop that goes into the routes, each from the facts that the code has where it needs it. Assumes nothing.
-use Prim.Native.Nat.{ℕ, zero, suc, ◌+◌, ◌≤◌, ◌<◌}
+use Prim.Native.Nat.{ℕ, ◌+◌, ◌≤◌, ◌<◌}
 use native.Mathlib.Omega.{arith}
 use mathlib.Core.Path.{◌≡◌, refl, sym, ap, subst, ◌∙◌}
 use mathlib.Core.List.{List, [], ◌∷◌, ◌++◌, reverse}
@@ -23,8 +23,7 @@ use Rattle.cheapest_insertion.specs.insertion.Inserted.{Inserts, cheapest_found}
 use Rattle.made_room.specs.ejection.declared.Ejection.{Ejection}
 use Rattle.made_room.specs.ejection.Eject.{eject, ejected, make_room, gone}
 use Rattle.made_room.specs.ejection.Ejected.{Inside, Ejects, eject_found}
-use Rattle.made_room.specs.ejection_made.declared.pool.Pool.{Pool}
-use Rattle.made_room.specs.ejection_made.Made.{stack, pooled, Made}
+use Rattle.made_room.specs.ejection_made.Made.{Stack, pooled, Made}
 use Rattle.made_room.specs.perturbation.Perturb.{perturb}
 use Rattle.ejection_pool.specs.Pool.{after_eject}
 use Rattle.ejection_pool.proofs.Placing.{Placing, eject_keeps}
@@ -39,12 +38,6 @@ somewhere_inside p routes c best e x h =
     record { there = f.there; within = f.within }
 
 -- ---- the ejection
-
--- the pool's cells that are in use
-pub stack_length : (cells : List ℕ) (m : ℕ) → length (stack cells m) ≡ m
-unfolding stack
-stack_length cells zero = refl
-stack_length cells (suc m) = ap suc (stack_length cells m)
 
 -- someone leaves
 gone_some : (routes : Plan) (e : Ejection) → 1 ≤ length (reverse (gone routes e))
@@ -69,9 +62,9 @@ module _ (p : Problem) (c : ℕ) (failures : List ℕ) (old : Routes) {best : Op
   leaves_inside = found.inside
 
   -- `new` is the plan with c in it
-  module _ {before after : Pool} {new : Routes} (g : Made old before c e new after) where
+  module _ {before after : Stack} {new : Routes} (g : Made old before c e new after) where
     fewer : total new.lengths.now ≤ total old.lengths.now
-    fewer = omega (arith, g.sum, stack_length after.cells.now after.count, ap length g.top, length-append (reverse (gone (plan_of old) e)) (pooled before), stack_length before.cells.now before.count, gone_some (plan_of old) e)
+    fewer = omega (arith, g.sum, length-reverse after.items, ap length g.top, length-append (reverse (gone (plan_of old) e)) (pooled before), length-reverse before.items, gone_some (plan_of old) e)
 
     pub room_planned : c < p.roads.size → Planned p.roads.size (plan_of old) → Planned p.roads.size (plan_of new)
     unfolding flat count one_if
@@ -97,7 +90,7 @@ module _ (p : Problem) (c : ℕ) (failures : List ℕ) (old : Routes) {best : Op
     unfolding after_eject
     forced tape counts q ed = rw (leaves, q.routes, ed, g.plan, g.top)
 
-pub stuck : (p : Problem) (c : ℕ) (failures rest tape : List ℕ) (counts : Counts) (plan : Plan) (pool : Pool) {best : Option Ejection}
+pub stuck : (p : Problem) (c : ℕ) (failures rest tape : List ℕ) (counts : Counts) (plan : Plan) (pool : Stack) {best : Option Ejection}
     → best ≡ eject p plan c failures → best ≡ None
     → as_turn (Err (record { steps = counts.steps + 1; draws = counts.draws })) plan pool failures
     ≡ after_eject tape p plan counts c rest failures (eject p plan c failures)

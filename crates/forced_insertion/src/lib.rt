@@ -8,20 +8,19 @@ ghost use Rattle.cheapest_insertion.specs.plan.Given.{plan_of, Keeps, Becomes};
 ghost use Rattle.cheapest_insertion.specs.local_search.Planned.{Planned};
 ghost use Rattle.cheapest_insertion.specs.insertion.Cheapest.{cheapest};
 ghost use Rattle.made_room.specs.ejection.Eject.{eject};
-ghost use Rattle.made_room.specs.ejection_made.Made.{pooled, SameCells};
+ghost use Rattle.made_room.specs.ejection_made.Made.{pooled};
 ghost use Rattle.ejection_pool.specs.Pool.{after_eject};
-ghost use Rattle.ejection_pool.specs.Running.{Forcing, is_there, put_best, one_more};
+ghost use Rattle.ejection_pool.specs.Running.{Forcing, of_minimisation, is_there, put_best, one_more};
 ghost use Rattle.forced_insertion.specs.Turned.{as_turn};
 ghost use Rattle.cheapest_insertion.specs.evaluation.Given.{of_instance};
 
 use cheapest_insertion::cheapest;
-use ejection_pool::pool::Pool;
 use ejection_pool::routes::Routes;
 use made_room::{Draws, Sought, eject, make_room, perturb};
 
 // Of the crates below, passed on to those above.
-pub use cheapest_insertion::{Counts, Demand, Instance, Times, Vehicle};
-pub use ejection_pool::{Allowance, pool, routes};
+pub use cheapest_insertion::{Counts, Instance, Times};
+pub use ejection_pool::{Minimisation, Pool, routes};
 
 // The stop c goes to its cheapest place, if it has one.
 pub fn place(routes: &mut Routes, times: &mut Times, c: u16, given: &Instance) -> bool
@@ -47,35 +46,32 @@ pub fn force(
     work: &mut [u16],
     times: &mut Times,
     failures: &[u32],
-    tape: &[u64],
     c: u16,
     counts: Counts,
-    given: &Instance,
+    given: &Minimisation,
 ) -> Result<Counts, Counts>
-    requires { Forcing (of_instance given.now) tape.now routes.old pool.old work.old failures.now c counts }
-    ensures plan { as_turn result (plan_of routes.new) pool.new failures.now ≡ after_eject tape.now (of_instance given.now)
-        (plan_of routes.old) counts c (pooled pool.old) failures.now (eject (of_instance given.now) (plan_of routes.old) c failures.now) }
+    requires { Forcing (of_minimisation given.now) routes.old pool.old work.old failures.now c counts }
+    ensures plan { as_turn result (plan_of routes.new) pool.new failures.now ≡ after_eject given.now.allowance.tape.now (of_minimisation given.now)
+        (plan_of routes.old) counts c (pooled pool.old) failures.now (eject (of_minimisation given.now) (plan_of routes.old) c failures.now) }
     ensures kept { Keeps routes.old routes.new }
-    ensures cells { SameCells pool.old pool.new }
 {
+    let instance = given.instance;
     let sought = Sought {
         c: c as usize,
         failures,
-        given,
+        given: instance,
     };
     let found = eject(work, times, &sought, routes);
     let steps = counts.steps + 1;
     let Some(e) = found else {
-        return Err(Counts {
-            steps,
-            draws: counts.draws,
-        });
+        return Err(Counts { steps, ..counts });
     };
     make_room(routes, pool, e, c);
-    let next = Draws {
-        tape,
+    let mut draws = Draws {
+        tape: given.allowance.tape,
         next: counts.draws,
     };
-    let draws = perturb(routes, work, next, given);
+    perturb(routes, work, &mut draws, instance);
+    let draws = draws.next;
     Ok(Counts { steps, draws })
 }

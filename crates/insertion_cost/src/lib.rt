@@ -3,7 +3,7 @@
 #![tactic(auto)]
 
 ghost use Rattle.std.specs.Prelude.{◌≡◌, [], ◌*◌, ◌<◌, ◌≤◌, length};
-ghost use Rattle.local_search.specs.models.Problem.{matrix, Stops};
+ghost use Rattle.local_search.specs.models.Problem.{Stops};
 ghost use Rattle.local_search.specs.route_cost.Route.{prev_stop, next_stop, insertion_cost};
 
 use local_search::get;

@@ -1,25 +1,21 @@
 -- A front and a tail joined in the work cells: laws from the facts that the code has where it needs them. Assumes nothing.
-use Prim.Native.Nat.{ℕ, ◌+◌, ◌-◌, ◌≤◌, ◌<◌, zero-le}
-use native.Mathlib.Nat.{zero-add}
+use Prim.Native.Nat.{ℕ, ◌+◌, ◌-◌, ◌≤◌, ◌<◌}
 use native.Mathlib.Omega.{arith}
 use mathlib.Core.Path.{◌≡◌, refl, sym, ap, ◌∙◌}
 use mathlib.Core.Bool.{Bool, true, false, not}
 use lib.Dec.{eqb}
 use borrow.Author.Tests.{ne_eqb}
-use mathlib.Core.List.{List, [], ◌∷◌}
-use lib.ListN.{length, get_or, take, drop, set, length-drop, length-set}
-use lib.Seq.{paste, take-paste, length-paste, take-take, drop-drop, length-take-le, get_or-set_other}
-use mir.Syntax.{w64}
-use mir.Val.{Fits}
+use mathlib.Core.List.{List, [], ◌∷◌, ◌++◌}
+use Rattle.std.proofs.Common.{append_assoc}
+use lib.ListN.{length, get_or, take, drop, set, length-append, length-drop, length-set}
+use lib.Seq.{take_all, take_at, length-take-le, get_or-set_other}
 use Rattle.stop_exchange.specs.laws.All.{all_get}
-use Rattle.stop_exchange.specs.laws.Lists.{drop_take}
 use Rattle.stop_exchange.specs.models.Problem.{Problem, Stops}
-use Rattle.stop_exchange.specs.plan.Plan.{Plan, HasPosition, route, total, offset, non_empty, exchange_tails}
+use Rattle.stop_exchange.specs.plan.Plan.{Plan, HasPosition, route, total, non_empty, exchange_tails}
 use Rattle.stop_exchange.specs.plan.Given.{plan_of}
 use Rattle.stop_exchange.specs.plan.declared.routes.Routes.{Routes}
-use Rattle.stop_exchange.specs.plan.Slices.{length_route, route_split, route_within, total_set, position_route, position_within}
+use Rattle.stop_exchange.specs.plan.Slices.{length_route, route_within, total_set, position_route, position_within}
 use Rattle.stop_exchange.specs.PlanExchanges.{length_exchange_tails, occurs_exchange_tails, number_exchange_tails, first_exchange_tails}
-use Rattle.stop_exchange.specs.PlanPlanLaws.{position_upto, position_fits, position_length_fits}
 use Rattle.stop_exchange.specs.route_load.Feasible.{feasible}
 use Rattle.stop_exchange.specs.local_search.Planned.{Planned, planned_stops, planned_as}
 use Rattle.stop_exchange.specs.perturbation.Parts.{joined, joined_stands}
@@ -41,45 +37,48 @@ module _ (r : Routes) (a i b j : ℕ) (d : a ≡ b → ⊥) (f : HasPosition (pl
       let o : get_or (set ls a 0) b 0 ≡ get_or ls b 0 = get_or-set_other ls a b 0 0 (λ e. d (sym e)) in
       omega (arith, total_set ls a 0 h, route_within (set ls a 0) b (rw length-set k))
 
-  pub joined_in_use : i + (get_or ls b 0 - j) ≤ length s
-  joined_in_use = omega (arith, both_in_use, r.lent.inside, position_within ls s r.lent a i f)
+  in_use : i + (get_or ls b 0 - j) ≤ length s
+  in_use = omega (arith, both_in_use, r.lent.inside, position_within ls s r.lent a i f)
 
-  pub joined_fits : Fits w64 (i + (get_or ls b 0 - j))
-  joined_fits = record { fits = omega (arith, joined_in_use, r.lent.few) }
+  -- t and u: the two routes as they are lent
+  module _ {t u : List ℕ} (et : t ≡ route a (plan_of r)) (eu : u ≡ route b (plan_of r)) where
+    front_there : i ≤ length t
+    front_there = rw et f.within
 
-  pub joined_there : (w w₁ : List ℕ) → length s ≤ length w → length w₁ ≡ length w → i + (get_or ls b 0 - j) ≤ length w₁
-  joined_there w w₁ h e = omega (arith, joined_in_use)
+    abbrev front : List ℕ
+    front = take i t
 
-  pub joined_taken : (w w₁ : List ℕ) → length s ≤ length w → length w₁ ≡ length w → i + (get_or ls b 0 - j) ≡ length (take (i + (get_or ls b 0 - j)) w₁)
-  joined_taken w w₁ h e = sym (length-take-le _ w₁ (joined_there w w₁ h e))
+    abbrev back : List ℕ
+    back = take (length u - j) (drop j u)
 
-  pub front_there : (w : List ℕ) → length s ≤ length w → 0 + i ≤ length w
-  front_there w h = omega (arith, joined_in_use)
+    back_is : back ≡ drop j u
+    back_is = take_all (length u - j) (drop j u) (simp length-drop (omega arith))
 
-  pub front_read : (p : ℕ) → p ≡ offset ls a → p + i ≤ length s
-  front_read p e = omega (arith, r.lent.inside, position_within ls s r.lent a i f, route_within ls a (position_route ls s a i f))
+    both_there : (w : List ℕ) → length s ≤ length w → length front + length back ≤ length w
+    both_there w h =
+        let n : length front ≡ i = length-take-le i t front_there in
+        let m : length back ≡ get_or ls b 0 - j = rw (back_is, length-drop, eu, length_route ls s r.lent.inside b) in
+        omega (arith, n, m, in_use)
 
-  pub tail_read : (q : ℕ) → q ≡ offset ls b → q + j + (get_or ls b 0 - j) ≤ length s
-  tail_read q e = omega (arith, r.lent.inside, position_within ls s r.lent b j g, route_within ls b (position_route ls s b j g))
+    pub front_fits : (w : List ℕ) → length s ≤ length w → length front ≤ length w
+    front_fits w h = omega (arith, both_there w h)
 
-  pub joined_cells : (w : List ℕ) {w₁ w₂ : List ℕ} (p q : ℕ) → length s ≤ length w → p ≡ offset ls a → q ≡ offset ls b → w₁ ≡ paste w 0 (drop p s) i
-      → w₂ ≡ paste w₁ i (drop (q + j) s) (get_or ls b 0 - j) → take (i + (get_or ls b 0 - j)) w₂ ≡ joined a i b j (plan_of r)
-  unfolding joined
-  joined_cells w {w₁} {w₂} p q h ep eq e₁ e₂ =
-      let m = get_or ls b 0 - j in
-      let ip : i ≤ length (drop p s) = rw length-drop (omega (arith, front_read p ep)) in
-      let iq : m ≤ length (drop (q + j) s) = rw length-drop (omega (arith, tail_read q eq)) in
-      let n₁ : length w₁ ≡ length w = rw e₁ (length-paste w 0 (drop p s) i (omega (arith, joined_in_use)) ip) in
-      let z : 0 + i ≡ i = zero-add i in
-      let first : take i w₁ ≡ take i (drop p s) =
-      ap (λ (k : ℕ). take k w₁) (sym z) ∙ ap (λ (x : List ℕ). take (0 + i) x) e₁ ∙ take-paste w 0 (drop p s) i zero-le ip in
-      let front : take i (drop p s) ≡ take i (route a (plan_of r)) =
-      rw (route_split ls s a, take-take i (get_or ls a 0) (drop (offset ls a) s) (position_within ls s r.lent a i f), ep) in
-      let tail : take m (drop (q + j) s) ≡ drop j (route b (plan_of r)) =
-      rw (route_split ls s b, drop_take j (get_or ls b 0) (drop (offset ls b) s), drop-drop j (offset ls b) s, eq) in
-      rw (e₂, take-paste w₁ i (drop (q + j) s) m (omega (arith, joined_in_use)) iq, first, front, tail)
+    pub back_fits : (w rest : List ℕ) → length s ≤ length w → length rest + length front ≡ length w → length back ≤ length rest
+    back_fits w rest h e = omega (arith, both_there w h)
 
-pub ruleset join_laws = (position_route, position_upto, position_within, position_fits, position_length_fits, joined_fits, joined_there, front_there, front_read, tail_read, joined_cells)
+    -- what the first cells are then
+    module _ (x y : List ℕ) (ex : x ≡ front) (ey : y ≡ back) (free : List ℕ) where
+      both_stand : take (length front + length back) (x ++ (y ++ free)) ≡ front ++ back
+      both_stand =
+          ap (λ (l : List ℕ). take (length front + length back) l) (rw (ex, ey) (sym (append_assoc front back free)))
+          ∙ take_at (front ++ back) free (length front + length back) (length-append front back)
+
+      pub joined_long : length front + length back ≡ length (take (length front + length back) (x ++ (y ++ free)))
+      joined_long = sym (ap length both_stand ∙ length-append front back)
+
+      pub joined_stand : take (length front + length back) (x ++ (y ++ free)) ≡ joined a i b j (plan_of r)
+      unfolding joined
+      joined_stand = both_stand ∙ rw (back_is, et, eu) refl
 
 -- ---- r is what they are joined to
 

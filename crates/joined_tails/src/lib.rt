@@ -12,7 +12,7 @@ ghost use Rattle.stop_exchange.specs.perturbation.Parts.{joined, joined_stands};
 ghost use Rattle.stop_exchange.specs.evaluation.Given.{of_instance};
 
 use stop_exchange::routes::{Position, Routes};
-use stop_exchange::{copy_part, feasible, within_capacity};
+use stop_exchange::{feasible, within_capacity};
 
 // Of the crates below, passed on to those above.
 pub use stop_exchange::{
@@ -20,7 +20,6 @@ pub use stop_exchange::{
 };
 
 // The front of route a up to its position goes to the first work cells, and behind it the tail of route b from its. Returns these cells.
-#[tactic(auto, using(crate::proofs::JoinLaws::join_laws))]
 fn join<'a>(routes: &Routes, work: &'a mut [u16], a: Position, b: Position) -> &'a [u16]
     requires other { a.route ≡ b.route → ⊥ }
     requires first { HasPosition (plan_of routes.now) a.route a.pos }
@@ -28,12 +27,12 @@ fn join<'a>(routes: &Routes, work: &'a mut [u16], a: Position, b: Position) -> &
     requires has_room { length routes.now.stops.now ≤ length work.old }
     ensures { result.now ≡ joined a.route a.pos b.route b.pos (plan_of routes.now) }
 {
-    let p = routes.begins(a.route);
-    let q = routes.begins(b.route) + b.pos;
-    let m = routes.lengths[b.route] as usize - b.pos;
-    copy_part(work, 0, routes.stops, p, a.pos);
-    copy_part(work, a.pos, routes.stops, q, m);
-    &work[..a.pos + m]
+    let front = &routes.route(a.route)[..a.pos];
+    let back = &routes.route(b.route)[b.pos..];
+    let (first, rest) = work.split_at_mut(front.len());
+    first.copy_from_slice(front);
+    rest[..back.len()].copy_from_slice(back);
+    &work[..front.len() + back.len()]
 }
 
 // Whether the front of route a up to its position with the tail of route b from its behind it has stops and is feasible. It is put into the work cells.

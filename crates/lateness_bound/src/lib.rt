@@ -3,8 +3,6 @@
 
 pub mod bound;
 
-use route_worth::Network;
-
 // Of the crates below, passed on to those above.
 pub use route_worth::{
     Problem, Vehicle, effective_cost as route_worth_effective_cost,

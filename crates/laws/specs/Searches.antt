@@ -1,7 +1,7 @@
 -- Searches over a list that end at the first hit. Assumes nothing.
 use Prim.Native.Nat.{ℕ, zero, suc, ◌+◌, ◌-◌, ◌≤◌, ◌<◌}
 use Rattle.std.specs.Prelude.{◌≡◌, refl, Bool, true, false, ◌&&◌, ◌||◌, length, get_or, drop}
-use Rattle.std.specs.List.{list_any}
+use Rattle.std.specs.List.{list_any, list_all, range_with_len}
 use Rattle.std.proofs.Math.Path.{sym, ap}
 use Rattle.std.proofs.Common.{subst, ◌∙◌, true≢false, le_of_suc-le-suc, not-suc-le-zero, zero-add, drop_of_length-le, drop-cons}
 use Rattle.std.proofs.lemmas.Bool.{false≢true}
@@ -56,6 +56,12 @@ any_none f (x ∷ xs) e = go (f x) refl e (λ h. any_none f xs h)
 unfoldable pub every : (ℕ → Bool) → ℕ → ℕ → Bool
 every t zero k = true
 every t (suc m) k = t k && every t m (suc k)
+
+-- it is `(k..k + m).all(t)`
+pub range_every : (t : ℕ → Bool) (m k : ℕ) → list_all t (range_with_len k m) ≡ every t m k
+unfolding every
+range_every t zero k = refl
+range_every t (suc m) k = rw (add-one k) (ap (λ (b : Bool). t k && b) (range_every t m (suc k)))
 
 -- In code, with k the number at hand of those below r.
 module _ (t : ℕ → Bool) (r k : ℕ) where

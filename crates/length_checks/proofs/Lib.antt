@@ -1,3 +1,3 @@
 -- What the functions' proofs lean on.
--- the sum of the lengths
+-- the sum of the lengths fits
 pub mod SumLaws

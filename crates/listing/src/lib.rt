@@ -5,4 +5,4 @@
 
 // Of the crates below, passed on to those above.
 pub use local_search::rounds::Counts;
-pub use local_search::{Demand, Problem, Vehicle, load, route_cost_route_distance, routes};
+pub use local_search::{Demand, Problem, Vehicle, each, load, route_cost_route_distance};

@@ -5,9 +5,7 @@ ghost use Rattle.listing_numbers.specs.listing.Listing.{stops as Listing·stops,
 ghost use Rattle.listing_numbers.specs.Put.{HasRoom, Puts};
 
 // Of the crates below, passed on to those above.
-pub use listing_numbers::{
-    Demand, Page, Problem, Vehicle, load, route_cost_route_distance, routes,
-};
+pub use listing_numbers::{Demand, Page, Problem, Vehicle, each, load, route_cost_route_distance};
 
 // Each stop behind a space.
 fn put_stops(page: &mut Page<'_>, stops: &[u16])

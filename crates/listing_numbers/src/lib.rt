@@ -8,7 +8,7 @@ ghost use Rattle.listing_numbers.specs.Put.{HasRoom, Puts};
 use itoa::{Buffer, Integer};
 
 // Of the crates below, passed on to those above.
-pub use listing::{Counts, Demand, Problem, Vehicle, load, route_cost_route_distance, routes};
+pub use listing::{Counts, Demand, Problem, Vehicle, each, load, route_cost_route_distance};
 
 // The bytes, and the position that is written at next.
 #[derive(Drop)]

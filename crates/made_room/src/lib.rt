@@ -6,9 +6,8 @@ ghost use Rattle.ejection_made.specs.plan.Given.{plan_of};
 ghost use Rattle.ejection_made.specs.ejection.Ejected.{Inside};
 ghost use Rattle.ejection_made.specs.Made.{Made};
 
-use ejection_made::pool::Pool;
 use ejection_made::routes::Routes;
-use ejection_made::{Ejection, make_one, make_two};
+use ejection_made::{Ejection, Pool, make_one, make_two};
 
 // Of the crates below, passed on to those above.
 pub use random_moves::{Draws, Sought, eject, perturb};
@@ -16,7 +15,7 @@ pub use random_moves::{Draws, Sought, eject, perturb};
 // The ejection is made for c.
 pub fn make_room(routes: &mut Routes, pool: &mut Pool, e: Ejection, c: u16)
     requires inside { Inside (plan_of routes.old) e }
-    requires has_room { pool.old.count + 1 < length pool.old.cells.now }
+    requires has_room { length pool.old.items + 1 < 256 }
     ensures { Made routes.old pool.old c e routes.new pool.new }
 {
     if e.first < e.second {

@@ -1,5 +1,5 @@
 -- minimise: what a refused call leaves, what an accepted one may rely on and what it answers. Assumes nothing.
-use Prim.Native.Nat.{ℕ, ◌≤◌}
+use Prim.Native.Nat.{ℕ, ◌≤◌, ◌<◌}
 use mathlib.Core.Path.{◌≡◌, sym, ap}
 use Rattle.std.specs.Prelude.{None, Some}
 use mathlib.Core.List.{List}
@@ -31,11 +31,13 @@ module _ (p : Problem) (s : Slices) (tape : List ℕ) (limit : ℕ) (w : Work) w
     pub minimise_admitted : Admitted p
     minimise_admitted = (minimise_accepted p s w tape limit (sym e)).0.admitted
 
-    pub minimise_searches : Searching p tape limit s.lengths s.stops
+    pub minimise_words : 0 < length tape
+    minimise_words = (minimise_accepted p s w tape limit (sym e)).1.words
+
+    pub minimise_searches : Searching p limit s.lengths s.stops
     minimise_searches =
         let a = minimise_accepted p s w tape limit (sym e) in
         record {
-          drawable = a.1.words;
           limited = a.1.steps;
           whole = a.0.sum;
           few = a.0.few;

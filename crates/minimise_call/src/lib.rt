@@ -10,7 +10,7 @@ ghost use Rattle.planner.specs.Told.{reply_of, slices_of, work_of, FreeIfAnswere
 use planner::instance;
 use refusals::Work;
 use refusals::calls::minimise_refusal;
-use route_minimization::{Bench, Times, minimize_routes};
+use route_minimization::{Bench, Minimisation, Times, minimize_routes};
 
 // Of the crates below, passed on to those above.
 pub use planner::{Reduction, Refusal};
@@ -42,7 +42,11 @@ pub fn minimise(
     let (departures, latest) = cells.split_at_mut(256);
     let times = Times { departures, latest };
     let mut bench = Bench { work, times };
-    let given = instance(problem);
-    let done = minimize_routes(lengths, stops, &mut bench, allowance, &given);
+    let made = instance(problem);
+    let given = Minimisation {
+        instance: &made,
+        allowance,
+    };
+    let done = minimize_routes(lengths, stops, &mut bench, &given);
     Ok(done)
 }

@@ -4,7 +4,6 @@
 
 // Of the crates below, passed on to those above.
 pub use pool_cost::{
-    Allowance, Counts, Customers, Demand, DistanceMatrix, Instance, LocalSearchNext, Pick, Problem,
-    Reduction, Vehicle, constrained, copy_part, has_soft_windows, pick_after, plan_cost, rounds,
-    routes,
+    Allowance, Counts, Customers, DistanceMatrix, LocalSearchNext, Minimisation, Pick, Problem,
+    Reduction, Vehicle, copy_part, each, pick_after, plan_cost, rounds, routes,
 };

@@ -12,18 +12,18 @@ ghost use Rattle.minimization.specs.route_cost.Route.{cost};
 ghost use Rattle.minimization.specs.local_search.Rounds.{try_each};
 ghost use Rattle.minimization.specs.local_search.Search.{but_last, tried_next, NextLeaves};
 ghost use Rattle.minimization.specs.pool_cost.Attempt.{attempt};
-ghost use Rattle.minimization.specs.ejection_pool.Running.{allowed};
+ghost use Rattle.minimization.specs.ejection_pool.Running.{allowed, of_minimisation};
 ghost use Rattle.route_attempt.specs.route_without.Attempting.{Attempting};
-ghost use Rattle.minimization.specs.evaluation.Given.{of_instance};
 
+use minimization::each::EachRoute;
 use minimization::routes::Routes;
 use minimization::{LocalSearchNext as Next, pick_after, plan_cost};
 use route_attempt::{attempt, drop_empty};
 
 // Of the crates below, passed on to those above.
 pub use minimization::{
-    Allowance, Counts, Customers, Demand, DistanceMatrix, Instance, LocalSearchNext, Pick, Problem,
-    Reduction, Vehicle, constrained, has_soft_windows, rounds, routes,
+    Allowance, Counts, Customers, DistanceMatrix, LocalSearchNext, Minimisation, Pick, Problem,
+    Reduction, Vehicle, rounds, routes,
 };
 pub use route_attempt::{Bench, Times};
 
@@ -45,7 +45,11 @@ pub fn begin(lengths: &mut [u16], stops: &[u16], vehicle: Vehicle, roads: &Dista
     ensures cost { result.before ≡ cost (of_roads roads.now vehicle) (split (drop_zero lengths.old) stops.now) }
 {
     let count = drop_empty(lengths);
-    let before = plan_cost(&lengths[..count], stops, vehicle, roads);
+    let routes = EachRoute {
+        lengths: &lengths[..count],
+        stops,
+    };
+    let before = plan_cost(routes, vehicle, roads);
     Round { count, before }
 }
 
@@ -53,27 +57,26 @@ pub fn begin(lengths: &mut [u16], stops: &[u16], vehicle: Vehicle, roads: &Dista
 pub fn try_next(
     routes: &mut Routes,
     bench: &mut Bench,
-    allowance: Allowance,
     last: Option<Pick>,
     before: f64,
     counted: Counts,
-    given: &Instance,
+    given: &Minimisation,
 ) -> Next
-    requires attempting { Attempting (of_instance given.now) allowance.tape.now allowance.limit routes.old counted }
-    requires before_value { before ≡ cost (of_instance given.now) (plan_of routes.old) }
+    requires attempting { Attempting (of_minimisation given.now) given.now.allowance.limit routes.old counted }
+    requires before_value { before ≡ cost (of_minimisation given.now) (plan_of routes.old) }
     requires few { length routes.old.lengths.now ≤ 256 }
     requires drawn { counted.draws ≤ 500 * counted.steps }
-    ensures round { tried_next (attempt (allowed allowance.entry) (of_instance given.now)) (plan_of routes.old) routes.old.lengths.now counted
-        result (split (but_last routes.new.lengths.now) routes.new.stops.now) ≡ try_each (attempt (allowed allowance.entry) (of_instance given.now))
+    ensures round { tried_next (attempt (allowed given.now.allowance) (of_minimisation given.now)) (plan_of routes.old) routes.old.lengths.now counted
+        result (split (but_last routes.new.lengths.now) routes.new.stops.now) ≡ try_each (attempt (allowed given.now.allowance) (of_minimisation given.now))
         (plan_of routes.old) (following routes.old.lengths.now last) counted }
-    ensures held { NextLeaves allowance.entry.limit given.now.fleet.net.roads.size routes.old.lengths.now routes.old.stops.now last counted result
+    ensures held { NextLeaves given.now.allowance.limit given.now.instance.now.fleet.net.roads.size routes.old.lengths.now routes.old.stops.now last counted result
         routes.new.lengths.now routes.new.stops.now }
     ensures kept { Keeps routes.old routes.new }
 {
     let Some(pick) = pick_after(routes, last) else {
         return Next::End;
     };
-    let tried = attempt(routes, bench, allowance, pick.route, before, counted, given);
+    let tried = attempt(routes, bench, pick.route, before, counted, given);
     match tried {
         Err(counts) => Next::Kept(pick, counts),
         Ok(counts) => Next::Accepted(counts),

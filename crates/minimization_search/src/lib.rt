@@ -8,17 +8,16 @@ ghost use Rattle.minimization_round.specs.route_cost.Route.{cost};
 ghost use Rattle.minimization_round.specs.local_search.Rounds.{reduce, try_each};
 ghost use Rattle.minimization_round.specs.local_search.Search.{Answers, but_last, tried_next, NextLeaves};
 ghost use Rattle.minimization_round.specs.pool_cost.Attempt.{attempt};
-ghost use Rattle.minimization_round.specs.ejection_pool.Running.{allowed};
+ghost use Rattle.minimization_round.specs.ejection_pool.Running.{allowed, of_minimisation};
 ghost use Rattle.minimization_search.specs.Minimizing.{Searching};
-ghost use Rattle.minimization_round.specs.evaluation.Given.{of_instance};
 
 use minimization_round::routes::Routes;
 use minimization_round::{LocalSearchNext as Next, Pick, begin, try_next};
 
 // Of the crates below, passed on to those above.
 pub use minimization_round::{
-    Allowance, Bench, Counts, Customers, Demand, DistanceMatrix, Instance, Problem, Reduction,
-    Times, Vehicle, constrained, has_soft_windows, rounds,
+    Allowance, Bench, Counts, Customers, DistanceMatrix, Minimisation, Problem, Reduction, Times,
+    Vehicle, rounds,
 };
 
 // The next attempt of a round, on the routes that are left.
@@ -26,23 +25,22 @@ fn next_attempt(
     lengths: &mut [u16],
     stops: &mut [u16],
     bench: &mut Bench,
-    allowance: Allowance,
     last: Option<Pick>,
     before: f64,
     counted: Counts,
-    given: &Instance,
+    given: &Minimisation,
 ) -> Next
-    requires searching { Searching (of_instance given.now) allowance.tape.now allowance.limit lengths.old stops.old }
-    requires before_value { before ≡ cost (of_instance given.now) (split lengths.old stops.old) }
+    requires searching { Searching (of_minimisation given.now) given.now.allowance.limit lengths.old stops.old }
+    requires before_value { before ≡ cost (of_minimisation given.now) (split lengths.old stops.old) }
     requires drawn { counted.draws ≤ 500 * counted.steps }
-    requires countable { counted.draws + 500 * allowance.limit < 9_000_000_000_000_000_000 }
-    ensures round { tried_next (attempt (allowed allowance.entry) (of_instance given.now)) (split lengths.old stops.old) lengths.old counted
-        result (split (but_last lengths.new) stops.new) ≡ try_each (attempt (allowed allowance.entry) (of_instance given.now))
+    requires countable { counted.draws + 500 * given.now.allowance.limit < 9_000_000_000_000_000_000 }
+    ensures round { tried_next (attempt (allowed given.now.allowance) (of_minimisation given.now)) (split lengths.old stops.old) lengths.old counted
+        result (split (but_last lengths.new) stops.new) ≡ try_each (attempt (allowed given.now.allowance) (of_minimisation given.now))
         (split lengths.old stops.old) (following lengths.old last) counted }
-    ensures held { NextLeaves allowance.entry.limit given.now.fleet.net.roads.size lengths.old stops.old last counted result lengths.new stops.new }
+    ensures held { NextLeaves given.now.allowance.limit given.now.instance.now.fleet.net.roads.size lengths.old stops.old last counted result lengths.new stops.new }
 {
     let mut routes = Routes { lengths, stops };
-    try_next(&mut routes, bench, allowance, last, before, counted, given)
+    try_next(&mut routes, bench, last, before, counted, given)
 }
 
 // Rounds of attempts, begun again from the shortest route as soon as one is accepted.
@@ -50,16 +48,16 @@ pub fn search(
     lengths: &mut [u16],
     stops: &mut [u16],
     bench: &mut Bench,
-    allowance: Allowance,
-    given: &Instance,
+    given: &Minimisation,
 ) -> Reduction
-    requires { Searching (of_instance given.now) allowance.tape.now allowance.limit lengths.old stops.old }
-    ensures { Answers (reduce (attempt (allowed allowance.entry) (of_instance given.now)) (split lengths.old stops.old)) (length lengths.old)
+    requires { Searching (of_minimisation given.now) given.now.allowance.limit lengths.old stops.old }
+    ensures { Answers (reduce (attempt (allowed given.now.allowance) (of_minimisation given.now)) (split lengths.old stops.old)) (length lengths.old)
         result.routes result.counts lengths.new stops.new }
 {
+    let fleet = &given.instance.fleet;
     let mut counts = Counts::default();
     'search: loop {
-        let round = begin(lengths, stops, given.fleet.vehicle, &given.fleet.net.roads);
+        let round = begin(lengths, stops, fleet.vehicle, &fleet.net.roads);
         let count = round.count;
         let mut last: Option<Pick> = None;
         loop {
@@ -67,7 +65,6 @@ pub fn search(
                 &mut lengths[..count],
                 stops,
                 bench,
-                allowance,
                 last,
                 round.before,
                 counts,

@@ -25,10 +25,8 @@ impl TimeWindow {
     pub fn new(ready: f64, due: f64) -> Option<TimeWindow>
         ensures { result ≡ time_window_new ready due }
     {
-        if is_finite(ready) && is_finite(due) && !(ready > due) {
-            return Some(TimeWindow { ready, due });
-        }
-        None
+        let ordered = is_finite(ready) && is_finite(due) && !(ready > due);
+        ordered.then_some(TimeWindow { ready, due })
     }
 
     // Whether `time` lies in the window, its two ends included.

@@ -33,7 +33,6 @@ module _ (p : Problem) (lent : Routes) (left : List ℕ) (g : Waiting p lent lef
   waiting_more lent₁ left₁ w k e =
       let n = fewer left₁ e in
       record {
-        admitted = g.admitted;
         routes = w.routes;
         few = omega (arith, w.sum, g.few, n);
         free = omega (arith, w.sum, g.free, n, k.room);

@@ -66,22 +66,22 @@ module _ (p : Problem) (old : Routes) (draws : Draws) (a b : ℕ) where
   pub first_none_plan : get_or old.lengths.now a 0 ≡ 0 → Becomes old moved.routes (total old.lengths.now) old
   first_none_plan e = still (first_none e)
 
-  pub first_none_draws : get_or old.lengths.now a 0 ≡ 0 → draws.next + 2 ≡ moved.draws
-  first_none_draws e = rw (first_none e)
+  pub first_none_draws : (d : ℕ) → d ≡ draws.next + 2 → get_or old.lengths.now a 0 ≡ 0 → d ≡ moved.draws
+  first_none_draws d ed e = rw (ed, first_none e)
 
   pub second_none_plan : (get_or old.lengths.now a 0 ≡ 0 → ⊥) → get_or old.lengths.now b 0 ≡ 0 → Becomes old moved.routes (total old.lengths.now) old
   second_none_plan f e = still (second_none f e)
 
-  pub second_none_draws : (get_or old.lengths.now a 0 ≡ 0 → ⊥) → get_or old.lengths.now b 0 ≡ 0 → draws.next + 2 ≡ moved.draws
-  second_none_draws f e = rw (second_none f e)
+  pub second_none_draws : (d : ℕ) → d ≡ draws.next + 2 → (get_or old.lengths.now a 0 ≡ 0 → ⊥) → get_or old.lengths.now b 0 ≡ 0 → d ≡ moved.draws
+  second_none_draws d ed f e = rw (ed, second_none f e)
 
   module _ (w : Between (plan_of old) a b) where
     pub moved_plan : (n : ℕ) (new : Routes) → Becomes old (try_move p draws.tape.now draws.next a b (plan_of old)) n new → Becomes old moved.routes n new
     unfolding move_between
     moved_plan n new h = rw w.full h
 
-    pub moved_draws : draws.next + 5 ≡ moved.draws
+    pub moved_draws : (d : ℕ) → d ≡ draws.next + 5 → d ≡ moved.draws
     unfolding move_between
-    moved_draws = rw w.full
+    moved_draws d ed = rw (ed, w.full)
 
 pub ruleset pair_laws = (between, first_none_plan, first_none_draws, second_none_plan, second_none_draws, moved_plan, moved_draws)

@@ -14,26 +14,28 @@ use drawn_moves::try_move;
 // Of the crates below, passed on to those above.
 pub use drawn_moves::{Demand, Draws, Instance, Sought, Vehicle, eject, other_than, routes};
 
-// A move between routes a and b: where one of them is empty there is none. Returns the draws of the call so far.
+// A move between routes a and b, which takes its draws: where one of them is empty there is none.
 #[tactic(auto, using(crate::proofs::PairLaws::pair_laws))]
 pub fn move_between(
     routes: &mut Routes,
     work: &mut [u16],
-    draws: Draws,
+    draws: &mut Draws,
     a: usize,
     b: usize,
     given: &Instance,
-) -> u64
-    requires movable { Movable given.now.fleet.net.roads.size routes.old draws }
+)
+    requires movable { Movable given.now.fleet.net.roads.size routes.old draws.old }
     requires has_room { length routes.old.stops.now ≤ length work.old }
     requires pair { Pair (plan_of routes.old) a b }
-    ensures plan { Becomes routes.old (move_between (of_instance given.now) draws.entry.tape.now a b (drawn routes.old draws.entry)).routes
+    ensures plan { Becomes routes.old (move_between (of_instance given.now) draws.old.tape.now a b (drawn routes.old draws.old)).routes
         (total routes.old.lengths.now) routes.new }
-    ensures draws { result ≡ (move_between (of_instance given.now) draws.entry.tape.now a b (drawn routes.old draws.entry)).draws }
+    ensures tape { draws.new.tape ≡ draws.old.tape }
+    ensures draws { draws.new.next ≡ (move_between (of_instance given.now) draws.old.tape.now a b (drawn routes.old draws.old)).draws }
 {
     if routes.lengths[a] == 0 || routes.lengths[b] == 0 {
-        return draws.next + 2; // there is none
+        draws.pass(2); // there is none
+        return;
     }
     try_move(routes, work, draws, a, b, given);
-    draws.next + 5
+    draws.pass(5);
 }

@@ -40,6 +40,15 @@ impl<'a> Draws<'a> {
     {
         self.word(i) % 2 == 0
     }
+
+    // The next n draws are taken.
+    pub fn pass(&mut self, n: u64)
+        requires { self.old.next + n < 2 ^ 64 }
+        ensures tape { self.new.tape ≡ self.old.tape }
+        ensures next { self.new.next ≡ self.old.next + n }
+    {
+        self.next += n;
+    }
 }
 
 // The route that draw b out of the routes but a stands for.

@@ -21,14 +21,10 @@ pub fn window_at(c: usize, places: &Customers) -> Option<TimeWindow>
     ensures { result ≡ window_at places.now.ready places.now.due places.now.flags c }
 {
     let (flags, ready, due) = (places.flags, places.ready, places.due);
-    if is_windowed(flags[c]) {
-        Some(TimeWindow {
-            ready: ready[c],
-            due: due[c],
-        })
-    } else {
-        None
-    }
+    is_windowed(flags[c]).then(|| TimeWindow {
+        ready: ready[c],
+        due: due[c],
+    })
 }
 
 // The penalty of place `c`, if its flags say that it has one.
@@ -37,11 +33,7 @@ pub fn penalty_at(c: usize, places: &Customers) -> Option<f64>
     ensures { result ≡ penalty_at places.now.penalty places.now.flags c }
 {
     let (flags, penalty) = (places.flags, places.penalty);
-    if is_penalised(flags[c]) {
-        Some(penalty[c])
-    } else {
-        None
-    }
+    is_penalised(flags[c]).then(|| penalty[c])
 }
 
 // Place `c` as one value.

@@ -1,42 +1,17 @@
 -- Where a route lies among the stops, and a stop put in or taken out, in the form that the proofs of the code want. Assumes nothing.
-use Rattle.std.proofs.Common.{◌≡◌, ℕ, ◌+◌, ◌-◌, ◌<◌, ◌≤◌, List, ◌++◌, length, get_or, take, drop, set, sym, refl, ap, ◌∙◌, zero-le, arith, length-append, length-drop, length-take-le, w16, w64, Fits}
+use Rattle.std.proofs.Common.{◌≡◌, ℕ, ◌+◌, ◌-◌, ◌<◌, ◌≤◌, List, ◌++◌, length, get_or, take, drop, set, sum, ◌^◌, ◌∙◌, arith, length-append, length-drop, length-take-le, w16, w64, Fits}
 use Rattle.cell_exchange.specs.laws.Edits.{insert_at, cut, cut_one, length_insert_at, length_cut}
 use Rattle.plan.specs.Plan.{Plan, Holds, Lent, HasPosition, HasStop, split, route, total, offset, put_in, take_out}
 use Rattle.cell_exchange.specs.Parts.{insert_at_in_use, cut_in_use}
-use Rattle.plan.specs.Slices.{offset_more, offset_within, offset_all, route_within, stop_split, position_within, position_route, stop_within, stop_route}
+use Rattle.plan.specs.Slices.{offset_within, route_within, stop_split, position_within, position_route, stop_within, stop_route}
 use Rattle.plan.specs.Routes.{put_in_slices, take_out_slices}
 use Rattle.plan.specs.Given.{Keeps, Becomes}
 use Rattle.plan.specs.declared.routes.Routes.{Routes}
 
--- ---- `offset`: the sum of the first i of the lengths before route k
+-- ---- the sum of the lengths before route k
 
-pub record Summing (ls : List ℕ) (sum i : ℕ) : Type 0 where
-  pub within : i ≤ length ls
-  pub few : total ls < 65536
-  pub so_far : sum ≡ offset ls i
-
-pub summing_none : (ls : List ℕ) (k : ℕ) → total ls < 65536 → Summing (take k ls) 0 0
-unfolding total
-summing_none ls k f = record { within = zero-le; few = omega (arith, offset_within ls k); so_far = refl }
-
-module _ (ls : List ℕ) (sum i : ℕ) (s : Summing ls sum i) where
-  pub summing_more : i < length ls → Summing ls (sum + get_or ls i 0) (i + 1)
-  summing_more h =
-      record {
-        within = omega arith;
-        few = s.few;
-        so_far = ap (λ (n : ℕ). n + get_or ls i 0) s.so_far ∙ sym (offset_more ls i h);
-      }
-
-  pub summing_fits : i < length ls → Fits w64 (sum + get_or ls i 0)
-  summing_fits h = record { fits = omega (arith, s.few, s.so_far, route_within ls i h) }
-
-  pub summing_all : length ls ≤ i → sum ≡ total ls
-  summing_all h =
-      let e : i ≡ length ls = omega (arith, s.within) in
-      rw (e, offset_all ls) at s.so_far
-
-pub ruleset summing_laws = (summing_none, summing_more, summing_fits, summing_all)
+pub offset_fits : (ls s : List ℕ) (k : ℕ) → Lent ls s → total (take k ls) < 2 ^ 64
+offset_fits ls s k l = omega (arith, l.inside, l.few, offset_within ls k)
 
 -- what an edit leaves is lent still
 lent_still : (ls s : List ℕ) {plan : Plan} {n : ℕ} {ls₁ s₁ : List ℕ} → Lent ls s → Holds plan n ls₁ s₁ → length s₁ ≡ length s → n ≤ length s → Lent ls₁ s₁

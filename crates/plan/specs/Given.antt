@@ -2,10 +2,15 @@
 use Rattle.std.specs.Prelude.{◌≡◌, ℕ, length, refl}
 use Rattle.std.proofs.Common.{◌∙◌}
 use Rattle.plan.specs.Plan.{Plan, split, total}
+use Rattle.plan.specs.declared.each.EachRoute.{EachRoute}
 use Rattle.plan.specs.declared.routes.Routes.{Routes}
 
 abbrev pub plan_of : Routes → Plan
 plan_of r = split r.lengths.now r.stops.now
+
+-- the routes that are left to be read, one after the other
+abbrev pub routes_left : EachRoute → Plan
+routes_left w = split w.lengths.now w.stops.now
 
 -- The two slices are still the same ones.
 pub record Keeps (old new : Routes) : Type 0 where

@@ -1,7 +1,9 @@
 -- The two slices and the list of routes are one: `split` and `flat` are inverse to each other, and route k is a part of the stops.
 -- Assumes nothing.
-use Rattle.std.specs.Prelude.{◌≡◌, ℕ, zero, suc, ◌+◌, ◌-◌, ◌<◌, ◌≤◌, List, [], ◌∷◌, ◌++◌, length, take, drop, slice_index, slice_index_or, slice_range, slice_set, refl}
+use Rattle.std.specs.Prelude.{◌≡◌, ℕ, zero, suc, ◌+◌, ◌-◌, ◌<◌, ◌≤◌, List, [], ◌∷◌, ◌++◌, length, take, drop, slice_index, slice_index_or, slice_range, slice_set, sum, refl}
 use Rattle.std.proofs.Common.{zero-le, ap, sym, ◌∙◌, subst, append_assoc, append-nil, le_of_suc-le-suc, not-suc-le-zero, le_refl, add-one, arith, length-append, length-drop, take-append-drop, take_all, length-take-le, take-add, take-take, drop-drop, get_or-take, get_or-drop}
+use Rattle.std.proofs.lemmas.List.{length-take}
+use Rattle.std.proofs.lemmas.List.Sums.{sum_by-cons}
 use Rattle.std.proofs.Math.Seq.{take-append_seam, drop-append_seam}
 use Rattle.cell_exchange.specs.laws.All.{All, all_nil, all_cons, all_append, all_take, all_drop}
 use Rattle.cell_exchange.specs.laws.Edits.{erase}
@@ -79,6 +81,12 @@ unfolding flat
 flat_append [] more = refl
 flat_append (r ∷ rs) more = rw (flat_append rs more, append_assoc)
 
+-- the lengths' sum in std's word
+pub sum_total : (ls : List ℕ) → sum ls ≡ total ls
+unfolding total
+sum_total [] = refl
+sum_total (n ∷ ns) = sum_by-cons (λ (k : ℕ). k) n ns ∙ ap (λ (k : ℕ). n + k) (sum_total ns)
+
 pub total_append : (ls ms : List ℕ) → total (ls ++ ms) ≡ total ls + total ms
 unfolding total
 total_append [] ms = omega arith
@@ -138,6 +146,10 @@ pub route_part : (ls s : List ℕ) (k at end : ℕ) → at ≡ offset ls k → e
 route_part ls s k at end e f =
     let n : end - at ≡ slice_index_or ls k 0 = omega arith in
     rw (n, e) (sym (route_split ls s k))
+
+-- a route is no longer than the stops
+pub route_short : (ls s : List ℕ) (k : ℕ) {r : List ℕ} → r ≡ route k (split ls s) → length r ≤ length s
+route_short ls s k e = rw (e, route_split, length-take, length-drop) (omega arith)
 
 module _ (ls s : List ℕ) (u : total ls ≤ length s) where
   pub length_route : (k : ℕ) → length (route k (split ls s)) ≡ slice_index ls k

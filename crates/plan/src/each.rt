@@ -1,7 +1,7 @@
 // The routes of a plan, one after the other.
 ghost use Rattle.std.specs.Prelude.{length};
 ghost use Rattle.std.specs.Iterator.{YieldsFirstRef, item_count};
-ghost use Rattle.plan.specs.Plan.{Lent, split};
+ghost use Rattle.plan.specs.Plan.{Lent};
 
 // The lengths of the routes that are left, and their stops.
 #[derive(Clone, Copy)]
@@ -12,18 +12,18 @@ pub struct EachRoute<'a> {
 }
 
 impl<'a> Iterator for EachRoute<'a> {
+    ghost use Rattle.plan.specs.Given.{routes_left};
+
     type Item = &'a [u16];
 
-    ghost next_gives = { YieldsFirstRef (λ w. split w.lengths.now w.stops.now) };
+    ghost next_gives = { YieldsFirstRef routes_left };
 
-    ghost remaining = { item_count (λ w. split w.lengths.now w.stops.now) };
+    ghost remaining = { item_count routes_left };
 
     // The route that comes next; none after the last one.
     #[tactic(auto, using(crate::proofs::EachLaws::each_laws))]
     fn next(&mut self) -> Option<&'a [u16]> {
-        let Some((length, lengths)) = self.lengths.split_first() else {
-            return None;
-        };
+        let (length, lengths) = self.lengths.split_first()?;
         let (route, stops) = self.stops.split_at(*length as usize);
         *self = EachRoute { lengths, stops };
         Some(route)

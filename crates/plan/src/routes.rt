@@ -1,6 +1,6 @@
 // The routes of a plan, and a stop put in or taken out.
-ghost use Rattle.std.specs.Prelude.{◌≡◌, ◌+◌, ◌-◌, ◌<◌, ◌≤◌, length, slice_index};
-ghost use Rattle.plan.specs.Plan.{Lent, HasPosition, HasStop, route, split, total, offset, put_in, take_out};
+ghost use Rattle.std.specs.Prelude.{◌≡◌, ◌+◌, ◌-◌, ◌<◌, ◌≤◌, ◌^◌, length, slice_index};
+ghost use Rattle.plan.specs.Plan.{Lent, HasPosition, HasStop, route, total, offset, put_in, take_out};
 
 use crate::each::EachRoute;
 
@@ -19,40 +19,36 @@ pub struct Position {
     pub pos: usize,
 }
 
-// Where route k begins among the stops.
-pub fn offset(lengths: &[u16], k: usize) -> usize
-    requires { (k ≤ length lengths.now) × (total lengths.now < 65536) }
-    ensures { result ≡ offset lengths.now k }
+// How many stops there are by their lengths.
+pub fn total(lengths: &[u16]) -> usize
+    requires { total lengths.now < 2 ^ 64 }
+    ensures { result ≡ total lengths.now }
 {
-    let mut sum = 0;
-    for length in &lengths[..k] {
-        sum += *length as usize;
-    }
-    sum
+    lengths.iter().map(|length| *length as usize).sum()
 }
 
 impl<'a> Routes<'a> {
-    ghost use Rattle.plan.specs.Given.{plan_of, Becomes};
+    ghost use Rattle.plan.specs.Given.{plan_of, routes_left, Becomes};
 
     // How many stops there are.
     pub fn used(&self) -> usize
         ensures { result ≡ total self.now.lengths.now }
     {
-        let count = self.lengths.len();
-        offset(self.lengths, count)
+        total(self.lengths)
     }
 
     // Where route k begins among the stops.
+    #[tactic(auto, using(crate::proofs::PlanLaws::offset_fits))]
     pub fn begins(&self, k: usize) -> usize
         requires { k ≤ length self.now.lengths.now }
         ensures { result ≡ offset self.now.lengths.now k }
     {
-        offset(self.lengths, k)
+        total(&self.lengths[..k])
     }
 
     // The routes, one after the other.
     pub fn each(&self) -> EachRoute
-        ensures { split result.lengths.now result.stops.now ≡ plan_of self.now }
+        ensures { routes_left result ≡ plan_of self.now }
     {
         EachRoute {
             lengths: self.lengths,

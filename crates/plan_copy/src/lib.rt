@@ -9,22 +9,14 @@ use route_removal::routes::Routes;
 // Of the crates below, passed on to those above.
 pub use route_removal::drop_empty;
 
-// Both slices are kept in the first work cells.
-pub fn save(work: &mut [u16], lengths: &[u16], stops: &[u16])
-    requires { length lengths.now + length stops.now ≤ length work.old }
-    ensures { work.new ≡ saved lengths.now stops.now work.old }
-{
-    let (first, rest) = work.split_at_mut(lengths.len());
-    first.copy_from_slice(lengths);
-    rest[..stops.len()].copy_from_slice(stops);
-}
-
-// The same of routes. A field that is lent from behind `&mut Routes` would lose what the routes hold; here the whole is.
+// Both slices are kept in the first work cells. A field lent from behind `&mut Routes` would lose what the routes hold, so the whole is lent.
 pub fn keep(work: &mut [u16], routes: &Routes)
     requires { length routes.now.lengths.now + length routes.now.stops.now ≤ length work.old }
     ensures { work.new ≡ saved routes.now.lengths.now routes.now.stops.now work.old }
 {
-    save(work, routes.lengths, routes.stops);
+    let (first, rest) = work.split_at_mut(routes.lengths.len());
+    first.copy_from_slice(routes.lengths);
+    rest[..routes.stops.len()].copy_from_slice(routes.stops);
 }
 
 // Both slices become what is kept in the first work cells.

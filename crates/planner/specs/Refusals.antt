@@ -6,8 +6,6 @@ use Rattle.std.specs.Float.Ieee.{of_int, of_bits}
 use Rattle.lateness_bound.specs.floats.Binary64.{1e12}
 use Rattle.lateness_bound.specs.models.declared.vehicle.Vehicle.{Vehicle}
 use Rattle.lateness_bound.specs.models.Problem.{Problem, problem}
-use Rattle.minimization.specs.plan.Plan.{Slices}
-use Rattle.entry.specs.declared.Work.{Work}
 use Rattle.entry.specs.Table.{refusal}
 use Rattle.entry.specs.Given.{minimise_inputs}
 use Rattle.planner.specs.Opened.{opened}

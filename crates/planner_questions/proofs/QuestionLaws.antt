@@ -1,16 +1,16 @@
 -- The questions about a route: what a refused one says, what an accepted one may rely on and what it answers. Assumes nothing.
 use Rattle.std.specs.Prelude.{Option, None, Some}
-use Prim.Native.Nat.{ℕ, zero, suc, ◌≤◌, ◌<◌, ◌*◌}
-use mathlib.Core.Path.{◌≡◌, refl, sym, ap, ◌∙◌}
+use Prim.Native.Nat.{ℕ, ◌≤◌, ◌<◌, ◌*◌}
+use mathlib.Core.Path.{◌≡◌, sym, ap, ◌∙◌}
 use mathlib.Core.Bool.{Bool}
-use mathlib.Core.List.{List, []}
+use mathlib.Core.List.{List}
 use lib.ListN.{length}
 use lib.Ieee.{Float}
 use Rattle.refusals.specs.models.declared.vehicle.VehicleBreak.{VehicleBreak}
 use Rattle.refusals.specs.models.declared.limits.RouteLimits.{RouteLimits}
 use Rattle.refusals.specs.break_clock.declared.route_eval.RouteEval.{RouteEval}
 use Rattle.refusals.specs.models.RouteLimits.{limits_of}
-use Rattle.refusals.specs.models.Problem.{Problem, Fit, Stops, matrix, depot}
+use Rattle.refusals.specs.models.Problem.{Problem, Fit, Stops, depot}
 use Rattle.refusals.specs.ModelsValidLaws.{valid_fit, valid_depot}
 use Rattle.refusals.specs.break_clock.Schedule.{schedule}
 use Rattle.refusals.specs.evaluation.Check.{route_feasible}

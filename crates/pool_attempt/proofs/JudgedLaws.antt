@@ -15,7 +15,7 @@ use Rattle.pool_cost.specs.local_search.Options.{Each, each_found, bind, then_so
 use Rattle.pool_cost.specs.local_search.Planned.{Planned, planned_stops}
 use Rattle.pool_cost.specs.route_cost.Route.{cost}
 use Rattle.pool_cost.specs.local_search.Rounds.{Tried}
-use Rattle.pool_cost.specs.ejection_made.declared.pool.Pool.{Pool}
+use Rattle.pool_cost.specs.ejection_made.Made.{Stack}
 use Rattle.pool_cost.specs.ejection_pool.Pool.{Allowance, State, Turn, stop, more, turn, at_limit, run_pool}
 use Rattle.pool_cost.specs.EjectionPoolTurns.{Then, turn_rule, pool_rule}
 use Rattle.pool_cost.specs.ejection_pool.Pooled.{Pooled}
@@ -50,8 +50,8 @@ module _ (given : Allowance) (p : Problem) (n : ℕ) (few : n ≤ 256) where
           (turn_rule given p (Then (λ _. Unit) O) s s.pool (λ _. pooled_planned p n (suc left) s few i) (λ _ _ _ _. tt) (λ _ _ _ _ _. tt) (λ _ _ _ _ _ _ _. tt))
 
 -- the plan that is left where the pool is emptied is one of stops
-module _ (given : Allowance) {p : Problem} {tape : List ℕ} {limit : ℕ} {before : Plan} {room : ℕ} {pool : Pool} {work failures : List ℕ} {counted : Counts}
-    (g : Running p tape limit before room pool work failures counted) where
+module _ (given : Allowance) {p : Problem} {limit : ℕ} {before : Plan} {room : ℕ} {pool : Stack} {work failures : List ℕ} {counted : Counts}
+    (g : Running p limit before room pool work failures counted) where
   pub done_stops : {plan : Plan} {counts : Counts} {x : Result Counts Counts} → said x plan ≡ run_pool given p limit (state before pool failures counted) → x ≡ Ok counts
       → All (Stops p.roads.size) plan
   done_stops {plan} e f =

@@ -10,9 +10,6 @@ use Rattle.plan_cost.specs.route_cost.Route.{cost}
 use Rattle.ejection_pool.specs.LocalSearchReadLaws.{cost_any}
 use Rattle.pool_cost.specs.Attempt.{if_cheaper}
 
-pub cheaper_is : (cost v before a : Float) → v ≡ cost → a ≡ abs before → lt v (before ⊖ 1e-12 ⊗ a) ≡ lt cost (before ⊖ 1e-12 ⊗ abs before)
-cheaper_is cost v before a e f = rw (e, f)
-
 -- the cost reads the roads alone
 pub cost_whole : (p : Problem) (plan : Plan) → cost (of_roads p.roads p.vehicle) plan ≡ cost p plan
 cost_whole p plan = cost_any p plan _ refl

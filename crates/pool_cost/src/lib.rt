@@ -15,13 +15,10 @@ use plan_cost::abs;
 
 // Of the crates below, passed on to those above.
 pub use ejection_pool::{
-    Allowance, Counts, LocalSearchNext, Pick, Reduction, constrained, pick_after, pool, rounds,
+    Allowance, Counts, LocalSearchNext, Minimisation, Pick, Pool, Reduction, pick_after, rounds,
     routes,
 };
-pub use plan_cost::{
-    Customers, Demand, DistanceMatrix, Instance, Problem, Vehicle, copy_part, has_soft_windows,
-    plan_cost,
-};
+pub use plan_cost::{Customers, DistanceMatrix, Problem, Vehicle, copy_part, each, plan_cost};
 
 // Whether a plan costs less than `before` by more than the tolerance.
 pub fn is_cheaper(routes: &Routes, before: f64, vehicle: Vehicle, roads: &DistanceMatrix) -> bool
@@ -30,5 +27,5 @@ pub fn is_cheaper(routes: &Routes, before: f64, vehicle: Vehicle, roads: &Distan
     requires stops { All (Stops roads.now.size) (plan_of routes.now) }
     ensures { result ≡ lt (cost (of_roads roads.now vehicle) (plan_of routes.now)) (before ⊖ 1e-12 ⊗ abs before) }
 {
-    plan_cost(routes.lengths, routes.stops, vehicle, roads) < before - 1e-12 * abs(before)
+    plan_cost(routes.each(), vehicle, roads) < before - 1e-12 * abs(before)
 }

@@ -5,18 +5,16 @@
 ghost use Rattle.std.specs.Prelude.{◌≡◌, ◌+◌, ◌<◌, ◌^◌, drop, length, slice_index};
 ghost use Rattle.forced_insertion.specs.plan.Given.{plan_of, Keeps};
 ghost use Rattle.forced_insertion.specs.insertion.Cheapest.{cheapest};
-ghost use Rattle.forced_insertion.specs.ejection_made.Made.{pooled, SameCells};
+ghost use Rattle.forced_insertion.specs.ejection_made.Made.{pooled};
 ghost use Rattle.forced_insertion.specs.ejection_pool.Pool.{after_cheapest};
-ghost use Rattle.forced_insertion.specs.ejection_pool.Running.{Running, state};
+ghost use Rattle.forced_insertion.specs.ejection_pool.Running.{Running, state, of_minimisation};
 ghost use Rattle.forced_insertion.specs.Turned.{as_turn};
-ghost use Rattle.forced_insertion.specs.evaluation.Given.{of_instance};
 
-use forced_insertion::pool::Pool;
 use forced_insertion::routes::Routes;
 use forced_insertion::{force, place};
 
 // Of the crates below, passed on to those above.
-pub use forced_insertion::{Allowance, Counts, Demand, Instance, Times, Vehicle, pool, routes};
+pub use forced_insertion::{Counts, Minimisation, Pool, Times, routes};
 
 // One turn: the stop on top of the pool is popped and goes to its cheapest place, or, with one failure more, in for others. An error is that no ejection
 // works; either comes with the counts of the call so far.
@@ -26,27 +24,25 @@ pub fn one_turn(
     work: &mut [u16],
     times: &mut Times,
     failures: &mut [u32],
-    tape: &[u64],
     counts: Counts,
-    given: &Instance,
+    given: &Minimisation,
 ) -> Result<Counts, Counts>
-    requires running { Running (of_instance given.now) tape.now 1 (plan_of routes.old) (length routes.old.stops.now) pool.old work.old failures.old
+    requires running { Running (of_minimisation given.now) 1 (plan_of routes.old) (length routes.old.stops.now) pool.old work.old failures.old
         counts }
-    requires some { 0 < pool.old.count }
+    requires some { 0 < length pool.old.items }
     requires step { counts.steps + 1 < 2 ^ 64 }
-    ensures plan { as_turn result (plan_of routes.new) pool.new failures.new ≡ after_cheapest tape.now (of_instance given.now)
+    ensures plan { as_turn result (plan_of routes.new) pool.new failures.new ≡ after_cheapest given.now.allowance.tape.now (of_minimisation given.now)
         (state (plan_of routes.old) pool.old failures.old counts) (slice_index (pooled pool.old) 0) (drop 1 (pooled pool.old))
-        (cheapest (of_instance given.now) (plan_of routes.old) (slice_index (pooled pool.old) 0)) }
+        (cheapest (of_minimisation given.now) (plan_of routes.old) (slice_index (pooled pool.old) 0)) }
     ensures kept { Keeps routes.old routes.new }
-    ensures cells { SameCells pool.old pool.new }
 {
-    let c = pool.pop();
-    if place(routes, times, c, given) {
+    let c = pool.pop().unwrap();
+    if place(routes, times, c, given.instance) {
         return Ok(Counts {
             steps: counts.steps + 1,
-            draws: counts.draws,
+            ..counts
         });
     }
     failures[c as usize] += 1;
-    force(routes, pool, work, times, failures, tape, c, counts, given)
+    force(routes, pool, work, times, failures, c, counts, given)
 }

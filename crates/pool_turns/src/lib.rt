@@ -4,18 +4,15 @@
 
 ghost use Rattle.std.specs.Prelude.{◌≡◌, length};
 ghost use Rattle.pool_turn.specs.plan.Given.{plan_of, Keeps};
-ghost use Rattle.pool_turn.specs.ejection_made.Made.{SameCells};
 ghost use Rattle.pool_turn.specs.ejection_pool.Pool.{run_pool};
-ghost use Rattle.pool_turn.specs.ejection_pool.Running.{Running, state, allowed};
+ghost use Rattle.pool_turn.specs.ejection_pool.Running.{Running, state, allowed, of_minimisation};
 ghost use Rattle.pool_turns.specs.Ends.{said};
-ghost use Rattle.pool_turn.specs.evaluation.Given.{of_instance};
 
 use pool_turn::one_turn;
-use pool_turn::pool::Pool;
 use pool_turn::routes::Routes;
 
 // Of the crates below, passed on to those above.
-pub use pool_turn::{Allowance, Counts, Demand, Instance, Times, Vehicle, pool, routes};
+pub use pool_turn::{Counts, Minimisation, Pool, Times, routes};
 
 // The pool is emptied into the routes, within the step limit and while the clock lets the call go on. An error is a pool that is not emptied. Either comes
 // with the counts of the call so far.
@@ -25,34 +22,23 @@ pub fn empty_into(
     work: &mut [u16],
     times: &mut Times,
     failures: &mut [u32],
-    allowance: Allowance,
     counted: Counts,
-    given: &Instance,
+    given: &Minimisation,
 ) -> Result<Counts, Counts>
-    requires { Running (of_instance given.now) allowance.tape.now allowance.limit (plan_of routes.old) (length routes.old.stops.now) pool.old work.old
+    requires { Running (of_minimisation given.now) given.now.allowance.limit (plan_of routes.old) (length routes.old.stops.now) pool.old work.old
         failures.old counted }
-    ensures plan { said result (plan_of routes.new) ≡ run_pool (allowed allowance.entry) (of_instance given.now) allowance.entry.limit
+    ensures plan { said result (plan_of routes.new) ≡ run_pool (allowed given.now.allowance) (of_minimisation given.now) given.now.allowance.limit
         (state (plan_of routes.old) pool.old failures.old counted) }
     ensures kept { Keeps routes.old routes.new }
-    ensures cells { SameCells pool.old pool.new }
 {
-    let mut left = allowance.limit;
+    let mut left = given.allowance.limit;
     let mut counts = counted;
-    while 0 < pool.count {
-        if left == 0 || allowance.clock <= counts.steps {
+    while !pool.is_empty() {
+        if left == 0 || given.allowance.clock <= counts.steps {
             return Err(counts);
         }
         left -= 1;
-        counts = one_turn(
-            routes,
-            pool,
-            work,
-            times,
-            failures,
-            allowance.tape,
-            counts,
-            given,
-        )?;
+        counts = one_turn(routes, pool, work, times, failures, counts, given)?;
     }
     Ok(counts)
 }

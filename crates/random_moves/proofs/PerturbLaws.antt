@@ -30,25 +30,22 @@ module _ (p : Problem) (old : Routes) (draws : Draws) (h : length old.lengths.no
   pub few_draws : draws.next ≡ (perturb p draws.tape.now (drawn old draws)).draws
   few_draws = rw few_is
 
--- the draws from d on
-abbrev pub from : Draws → ℕ → Draws
-from draws d = record { tape = draws.tape; next = d; some = draws.some }
-
 -- before turn i, from the plan `old` and `draws` on
-pub record Perturbing (p : Problem) (n : ℕ) (old : Routes) (draws : Draws) (r : Routes) (w : List ℕ) (d i : ℕ) : Type 0 where
+pub record Perturbing (p : Problem) (n : ℕ) (old : Routes) (draws : Draws) (r : Routes) (w : List ℕ) (now : Draws) (i : ℕ) : Type 0 where
   pub planned : Planned n (plan_of r)
   pub room : length r.stops.now ≤ length w
   pub many : 2 ≤ length r.lengths.now
   pub turns : i ≤ 100
   pub countable : draws.next + 500 < 2 ^ 64
-  pub counted : d ≤ draws.next + 5 * i
+  pub tape : now.tape ≡ draws.tape
+  pub counted : now.next ≤ draws.next + 5 * i
   pub sum : total r.lengths.now ≡ total old.lengths.now
   pub kept : Keeps old r
-  pub so_far : drawn r (from draws d) ≡ loop i (λ _. move p draws.tape.now) (drawn old draws)
+  pub so_far : drawn r now ≡ loop i (λ _. move p draws.tape.now) (drawn old draws)
 
 module _ (p : Problem) (n : ℕ) (old : Routes) (draws : Draws) where
   pub perturbing_start : (w : List ℕ) → Planned n (plan_of old) → length old.stops.now ≤ length w → draws.next + 500 < 2 ^ 64
-      → 2 ≤ length old.lengths.now → Perturbing p n old draws old w draws.next 0
+      → 2 ≤ length old.lengths.now → Perturbing p n old draws old w draws 0
   perturbing_start w r e k h =
       record {
         planned = r;
@@ -56,32 +53,34 @@ module _ (p : Problem) (n : ℕ) (old : Routes) (draws : Draws) where
         many = h;
         turns = zero-le;
         countable = k;
+        tape = refl;
         counted = omega arith;
         sum = refl;
         kept = keeps_same old;
         so_far = loop_none (λ _. move p draws.tape.now) (drawn old draws);
       }
 
-  module _ (r : Routes) (w : List ℕ) (d i : ℕ) (g : Perturbing p n old draws r w d i) where
-    pub perturbing_movable : i < 100 → Movable n r (from draws d)
+  module _ (r : Routes) (w : List ℕ) (now : Draws) (i : ℕ) (g : Perturbing p n old draws r w now i) where
+    pub perturbing_movable : i < 100 → Movable n r now
     perturbing_movable h = record { planned = g.planned; countable = omega (arith, g.countable, g.counted) }
 
-    pub perturbing_more : (r₁ : Routes) (w₁ : List ℕ) (d₁ : ℕ) → i < 100
-        → Becomes r (move p draws.tape.now (drawn r (from draws d))).routes (total r.lengths.now) r₁
-        → d₁ ≡ (move p draws.tape.now (drawn r (from draws d))).draws → length w₁ ≡ length w → Perturbing p n old draws r₁ w₁ d₁ (i + 1)
-    perturbing_more r₁ w₁ d₁ h m drew ew =
+    pub perturbing_more : (r₁ : Routes) (w₁ : List ℕ) (now₁ : Draws) → i < 100
+        → Becomes r (move p now.tape.now (drawn r now)).routes (total r.lengths.now) r₁ → now₁.tape ≡ now.tape
+        → now₁.next ≡ (move p now.tape.now (drawn r now)).draws → length w₁ ≡ length w → Perturbing p n old draws r₁ w₁ now₁ (i + 1)
+    perturbing_more r₁ w₁ now₁ h m same drew ew =
         let two : 2 ≤ length (plan_of r) = rw length_split g.many in
         let number : length (flat (plan_of r₁)) ≤ length (flat (plan_of r)) =
         omega (arith, m.sum, holds_number (holds_self r.lengths.now r.stops.now r.lent.inside) r.lent.inside, holds_number (holds_self r₁.lengths.now r₁.stops.now r₁.lent.inside) r₁.lent.inside) in
         let places : (c : ℕ) → occurs c (plan_of r₁) ≡ occurs c (plan_of r) =
-        λ c. ap (λ (x : Plan). occurs c x) m.routes ∙ move_places p draws.tape.now (drawn r (from draws d)) two c in
+        λ c. ap (λ (x : Plan). occurs c x) m.routes ∙ move_places p now.tape.now (drawn r now) two c in
         record {
           planned = planned_as n (plan_of r) (plan_of r₁) number places g.planned;
           room = omega (arith, g.room, m.kept.room);
           many = omega (arith, g.many, m.kept.count);
           turns = omega arith;
           countable = g.countable;
-          counted = omega (arith, g.counted, drew, move_draws p draws.tape.now (drawn r (from draws d)));
+          tape = same ∙ g.tape;
+          counted = omega (arith, g.counted, drew, move_draws p now.tape.now (drawn r now));
           sum = m.sum ∙ g.sum;
           kept =
               record {
@@ -90,22 +89,22 @@ module _ (p : Problem) (n : ℕ) (old : Routes) (draws : Draws) where
                 count = m.kept.count ∙ g.kept.count;
                 room = m.kept.room ∙ g.kept.room;
               };
-          so_far = loop_more (λ _. move p draws.tape.now) (drawn old draws) i (drawn r (from draws d)) (drawn r₁ (from draws d₁)) g.so_far (rw (m.routes, drew));
+          so_far = loop_more (λ _. move p draws.tape.now) (drawn old draws) i (drawn r now) (drawn r₁ now₁) g.so_far (rw (← g.tape, m.routes, drew));
         }
 
     module _ (h : 100 ≤ i) where
-      end_is : drawn r (from draws d) ≡ perturb p draws.tape.now (drawn old draws)
+      end_is : drawn r now ≡ perturb p draws.tape.now (drawn old draws)
       unfolding perturb
       end_is =
           let z : i ≡ 100 = omega (arith, g.turns) in
-          let e : drawn r (from draws d) ≡ loop 100 (λ _. move p draws.tape.now) (drawn old draws) =
-          loop_end (λ _. move p draws.tape.now) (drawn old draws) i 100 (drawn r (from draws d)) g.so_far z in
+          let e : drawn r now ≡ loop 100 (λ _. move p draws.tape.now) (drawn old draws) =
+          loop_end (λ _. move p draws.tape.now) (drawn old draws) i 100 (drawn r now) g.so_far z in
           rw (length_split old.lengths.now old.stops.now, le-ltb (length old.lengths.now) 2 (omega (arith, g.many, g.kept.count))) e
 
       pub perturbing_plan : Becomes old (perturb p draws.tape.now (drawn old draws)).routes (total old.lengths.now) r
       perturbing_plan = record { routes = ap (λ (t : Drawn). t.routes) end_is; sum = g.sum; kept = g.kept }
 
-      pub perturbing_draws : d ≡ (perturb p draws.tape.now (drawn old draws)).draws
+      pub perturbing_draws : now.next ≡ (perturb p draws.tape.now (drawn old draws)).draws
       perturbing_draws = ap (λ (t : Drawn). t.draws) end_is
 
 pub ruleset perturb_laws = (few_plan, few_draws, perturbing_start, perturbing_movable, perturbing_more, perturbing_plan, perturbing_draws)

@@ -18,23 +18,21 @@ pub mod moves;
 // Of the crates below, passed on to those above.
 pub use pair_move::{Draws, Sought, eject};
 
-// 100 moves are tried; over fewer than two routes none. The work cells are free. Returns the draws of the call so far.
+// 100 moves are tried; over fewer than two routes none. The work cells are free.
 #[tactic(auto, using(crate::proofs::PerturbLaws::perturb_laws))]
-pub fn perturb(routes: &mut Routes, work: &mut [u16], draws: Draws, given: &Instance) -> u64
+pub fn perturb(routes: &mut Routes, work: &mut [u16], draws: &mut Draws, given: &Instance)
     requires planned { Planned given.now.fleet.net.roads.size (plan_of routes.old) }
     requires has_room { length routes.old.stops.now ≤ length work.old }
-    requires countable { draws.next + 500 < 2 ^ 64 }
-    ensures plan { Becomes routes.old (perturb (of_instance given.now) draws.entry.tape.now (drawn routes.old draws.entry)).routes
+    requires countable { draws.old.next + 500 < 2 ^ 64 }
+    ensures plan { Becomes routes.old (perturb (of_instance given.now) draws.old.tape.now (drawn routes.old draws.old)).routes
         (total routes.old.lengths.now) routes.new }
-    ensures draws { result ≡ (perturb (of_instance given.now) draws.entry.tape.now (drawn routes.old draws.entry)).draws }
+    ensures tape { draws.new.tape ≡ draws.old.tape }
+    ensures draws { draws.new.next ≡ (perturb (of_instance given.now) draws.old.tape.now (drawn routes.old draws.old)).draws }
 {
     if routes.lengths.len() < 2 {
-        return draws.next;
+        return;
     }
-    let tape = draws.tape;
-    let mut next = draws.next;
     for _ in 0..100usize {
-        next = one_move(routes, work, Draws { tape, next }, given);
+        one_move(routes, work, draws, given);
     }
-    next
 }

@@ -3,23 +3,24 @@ use Rattle.std.specs.Prelude.{ℕ, ◌+◌, ◌*◌, ◌≤◌, ◌≡◌, List,
 use Rattle.call_history.specs.models.Problem.{Problem}
 use Rattle.call_history.specs.planner.Calls.{Reply}
 use Rattle.call_history.specs.planner.Run.{call}
-use Rattle.call_history.specs.call_words.Words.{Buffers, plan_slices, both_slices, words_at, call_of, answer_words, put}
-use Rattle.called.specs.Lent.{Lent}
+use Rattle.call_history.specs.call_words.declared.Words.{Words}
+use Rattle.call_history.specs.call_words.Words.{Buffers, plan_slices, both_slices, call_of, answer_words, put}
 
--- call i can be run, its tape beginning at `from`, and recorded
-pub record Next (i from : ℕ) (calls tapes : List ℕ) (b : Buffers) : Type 0 where
-  pub words : i * 6 + 6 ≤ length calls
-  pub lent : Lent (words_at i calls) from (length tapes) (length b.work) (length b.cells)
+-- a call of these words can be run as call i, its tape the first of the tapes, and recorded
+pub record Next (i : ℕ) (w : Words) (tapes : List ℕ) (b : Buffers) : Type 0 where
+  pub tape : w.tape ≤ length tapes
+  pub small : w.work.u16_cells ≤ length b.work
+  pub wide : w.work.f64_cells ≤ length b.cells
   pub answer : i * 4 + 4 ≤ length b.answers
   pub slices : i * both_slices b + both_slices b ≤ length b.history
 
--- the reply to call i
-abbrev pub reply_at : ℕ → ℕ → Problem → List ℕ → List ℕ → Buffers → Reply
-reply_at i from p calls tapes b = call p (plan_slices b) (call_of (words_at i calls) (drop from tapes))
+-- the reply to the call of these words
+abbrev pub reply_to : Words → Problem → List ℕ → Buffers → Reply
+reply_to w p tapes b = call p (plan_slices b) (call_of w tapes)
 
--- call i is run and recorded, and the next tape begins at `next`
-pub record Recorded (i from next : ℕ) (p : Problem) (calls tapes : List ℕ) (before after : Buffers) : Type 0 where
-  pub slices : plan_slices after ≡ (reply_at i from p calls tapes before).slices
-  pub answers : after.answers ≡ put before.answers (i * 4) (answer_words (reply_at i from p calls tapes before).answer)
+-- it is run and recorded as call i, and the other tapes are left
+pub record Recorded (i : ℕ) (w : Words) (p : Problem) (tapes left : List ℕ) (before after : Buffers) : Type 0 where
+  pub slices : plan_slices after ≡ (reply_to w p tapes before).slices
+  pub answers : after.answers ≡ put before.answers (i * 4) (answer_words (reply_to w p tapes before).answer)
   pub history : after.history ≡ put before.history (i * both_slices before) (after.lengths ++ after.stops)
-  pub tape : next ≡ from + (words_at i calls).tape
+  pub tape : left ≡ drop w.tape tapes

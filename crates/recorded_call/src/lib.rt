@@ -4,39 +4,33 @@
 
 ghost use Rattle.std.specs.Prelude.{◌≡◌};
 ghost use Rattle.call_history.specs.models.Lent.{of_problem};
-ghost use Rattle.call_history.specs.call_words.Words.{buffers};
+ghost use Rattle.call_history.specs.call_words.Lent.{of_buffers, Keeps};
 ghost use Rattle.recorded_call.specs.Recording.{Next, Recorded};
 
-use call_history::{record_answer, record_slices, words_at};
+use call_history::{record_answer, record_slices};
 use called::run_call;
 
 // Of the crates below, passed on to those above.
-pub use call_history::{Problem, Vehicle, well_formed};
+pub use call_history::{Buffers, Problem, Vehicle, Words, well_formed};
 pub use called::{Allowance, eliminate, minimise};
 
-// Call i, run and recorded. Its tape begins at `from`; the answer is where the next one begins.
-pub fn run_next(
-    lengths: &mut [u16],
-    stops: &mut [u16],
-    work: &mut [u16],
-    cells: &mut [f64],
-    answers: &mut [u64],
-    history: &mut [u16],
-    calls: &[u64],
-    tapes: &[u64],
+// Call i, as its words say, run with the first of the tapes and recorded. The answer is the tapes that are left.
+pub fn run_next<'a>(
+    b: &mut Buffers,
     i: usize,
-    from: usize,
+    w: Words,
+    tapes: &'a [u64],
     problem: &Problem,
-) -> usize
-    requires { Next i from calls.now tapes.now (buffers lengths.old stops.old work.old cells.old answers.old history.old) }
-    ensures { Recorded i from result (of_problem problem.now) calls.now tapes.now
-        (buffers lengths.old stops.old work.old cells.old answers.old history.old)
-        (buffers lengths.new stops.new work.new cells.new answers.new history.new) }
+) -> &'a [u64]
+    requires { Next i w tapes.now (of_buffers b.old) }
+    ensures recorded { Recorded i w (of_problem problem.now) tapes.now result.now (of_buffers b.old) (of_buffers b.new) }
+    ensures kept { Keeps b.old b.new }
 {
-    let w = words_at(calls, i);
-    let a = run_call(lengths, stops, work, cells, tapes, from, w, problem);
-    record_answer(answers, i, a);
-    record_slices(history, i, lengths, stops);
-    let tape = w.tape;
-    from + tape
+    let (tape, rest) = tapes.split_at(w.tape);
+    let lengths = &mut *b.lengths;
+    let stops = &mut *b.stops;
+    let answer = run_call(lengths, stops, b.work, b.cells, tape, w, problem);
+    record_answer(b.answers, i, answer);
+    record_slices(b.history, i, lengths, stops);
+    rest
 }

@@ -1,9 +1,8 @@
 // The rows of the refusal table (entry, specs/Table.antt) in groups, by what they read. Each group is refused with its first row that applies.
 #![tactic(auto)]
 
-ghost use Rattle.std.specs.Prelude.{◌≡◌, true, []};
+ghost use Rattle.std.specs.Prelude.{◌≡◌, true};
 ghost use Rattle.place_checks.specs.models.Lent.{of_problem};
-ghost use Rattle.place_checks.specs.models.Problem.{of_distances};
 ghost use Rattle.place_checks.specs.models.Valid.{sizes_pass, values_pass};
 ghost use Rattle.stop_checks.specs.plan.Plan.{Slices};
 ghost use Rattle.stop_checks.specs.entry.Given.{row_of};
@@ -55,23 +54,23 @@ pub fn problem_rows(beside: bool, problem: &Problem) -> Result<(), Refusal>
 }
 
 // Row 6, of a route.
-pub fn route_rows(n: usize, vehicle: Vehicle, route: &[u16]) -> Result<(), Refusal>
-    ensures { row_of result ≡ route_rows (of_distances n [] vehicle) route.now }
+pub fn route_rows(route: &[u16], problem: &Problem) -> Result<(), Refusal>
+    ensures { row_of result ≡ route_rows (of_problem problem.now) route.now }
 {
-    if !stops_pass(n, vehicle, route) {
+    if !stops_pass(route, problem) {
         return Err(Refusal::Stops);
     }
     Ok(())
 }
 
 // Rows 5 and 6, of a plan.
-pub fn plan_rows(n: usize, vehicle: Vehicle, lengths: &[u16], stops: &[u16]) -> Result<(), Refusal>
-    ensures { row_of result ≡ plan_rows (of_distances n [] vehicle) (record { lengths = lengths.entry.now; stops = stops.now }) }
+pub fn plan_rows(lengths: &[u16], stops: &[u16], problem: &Problem) -> Result<(), Refusal>
+    ensures { row_of result ≡ plan_rows (of_problem problem.now) (record { lengths = lengths.entry.now; stops = stops.now }) }
 {
     if bad_lengths(lengths, stops) {
         return Err(Refusal::Lengths);
     }
-    route_rows(n, vehicle, stops)
+    route_rows(stops, problem)
 }
 
 // Row 9.

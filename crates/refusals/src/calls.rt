@@ -6,8 +6,8 @@ ghost use Rattle.refusal_rows.specs.entry.Table.{refusal};
 ghost use Rattle.refusal_rows.specs.entry.Given.{row_of, problem_inputs, route_inputs, schedule_inputs, eliminate_inputs, minimise_inputs};
 
 use refusal_rows::{
-    Problem, Refusal, Vehicle, VehicleBreak, Work, break_passes, minimise_rows, plan_rows,
-    problem_rows, route_rows, work_rows,
+    Problem, Refusal, VehicleBreak, Work, break_passes, minimise_rows, plan_rows, problem_rows,
+    route_rows, work_rows,
 };
 
 // A call that is given the problem alone: rows 1 to 4.
@@ -22,7 +22,7 @@ pub fn route_refusal(route: &[u16], problem: &Problem) -> Result<(), Refusal>
     ensures { row_of result ≡ refusal (route_inputs (of_problem problem.now) route.now) }
 {
     problem_rows(true, problem)?;
-    route_rows(problem.roads.size(), problem.vehicle, route)
+    route_rows(route, problem)
 }
 
 // `schedule`, which is given a route and a break: the floats of the break belong to row 2.
@@ -31,7 +31,7 @@ pub fn schedule_refusal(route: &[u16], rest: VehicleBreak, problem: &Problem) ->
 {
     let beside = break_passes(rest);
     problem_rows(beside, problem)?;
-    route_rows(problem.roads.size(), problem.vehicle, route)
+    route_rows(route, problem)
 }
 
 // eliminate: rows 1 to 6 and 9.
@@ -45,7 +45,7 @@ pub fn eliminate_refusal(
         (eliminate_inputs (of_problem problem.now) (record { lengths = lengths.entry.now; stops = stops.now }) work) }
 {
     problem_rows(true, problem)?;
-    plan_rows(problem.roads.size(), problem.vehicle, lengths, stops)?;
+    plan_rows(lengths, stops, problem)?;
     work_rows(work)
 }
 
@@ -62,6 +62,6 @@ pub fn minimise_refusal(
         (minimise_inputs (of_problem problem.now) (record { lengths = lengths.entry.now; stops = stops.now }) tape.now limit work) }
 {
     problem_rows(true, problem)?;
-    plan_rows(problem.roads.size(), problem.vehicle, lengths, stops)?;
+    plan_rows(lengths, stops, problem)?;
     minimise_rows(tape, limit, work)
 }

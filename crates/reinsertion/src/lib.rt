@@ -61,7 +61,7 @@ fn look_along(
     ensures { result ≡ loop (suc (length route.now)) (look_at (of_fleet fleet.now) stop.c stop.added stop.saved k route.now) best }
 {
     let mut found = best;
-    for pos in 0..route.len() + 1 {
+    for pos in 0..=route.len() {
         found = look_at(route, pos, k, before, found, stop, fleet);
     }
     found

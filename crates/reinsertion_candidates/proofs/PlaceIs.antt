@@ -1,14 +1,13 @@
 -- The pass of specs/Place finds the first candidate in sorted order that passes. Assumes nothing.
 use Prim.Native.Nat.{ℕ, suc}
-use Rattle.std.specs.Prelude.{◌≡◌, Bool, not, ◌||◌, length, Float}
+use Rattle.std.specs.Prelude.{◌≡◌, Bool, ◌||◌, length, Float}
 use Rattle.std.proofs.Math.Path.{refl}
 use Rattle.std.proofs.Common.{ap, sym, ◌∙◌}
 use mathlib.Core.List.{List, [], ◌∷◌, map}
 use Rattle.std.proofs.Math.Bool.{true, false, cond}
 use Rattle.std.specs.Prelude.{Option, None, Some}
 use Rattle.std.specs.Float.Ieee.{le}
-use Rattle.reinsertion_worth.specs.floats.Binary64.{◌⊕◌, is_finite, total_rank, total_less}
-use Rattle.reinsertion_worth.specs.laws.Edits.{insert_at}
+use Rattle.reinsertion_worth.specs.floats.Binary64.{◌⊕◌, total_rank, total_less}
 use Rattle.reinsertion_worth.specs.laws.Loops.{loop, loop_same, foldl}
 use Rattle.reinsertion_worth.specs.laws.Sorts.{range}
 use Rattle.reinsertion_worth.specs.laws.Firsts.{Ordering, ordering_by, find, find_sorted, better, foldl_map, foldl_flat, foldl_keep, foldl_range}
@@ -16,9 +15,9 @@ use Rattle.reinsertion_worth.specs.models.Problem.{Problem}
 use Rattle.reinsertion_worth.specs.plan.Plan.{Plan, route}
 use Rattle.reinsertion_worth.specs.route_cost.declared.Insertion.{Insertion}
 use Rattle.reinsertion_worth.specs.route_load.Feasible.{has_room, checked}
-use Rattle.reinsertion_worth.specs.Worth.{soft, insertion_worth}
+use Rattle.reinsertion_worth.specs.Worth.{insertion_worth}
 use Rattle.reinsertion_candidates.specs.Candidates.{positions, candidates_in, candidates, nowhere, by_cost, trial, first_passing}
-use Rattle.reinsertion_candidates.specs.Place.{counts, comes_first, settles, look_at, look_through, look_over, unless_cut}
+use Rattle.reinsertion_candidates.specs.Place.{counts, look_at, look_through, look_over, unless_cut}
 
 -- ---- it finds the first candidate in sorted order that passes
 

@@ -1,7 +1,7 @@
 -- What the code asks of a stop that is to be moved, of a route that it may go into, and of the plan. Assumes nothing.
 use Rattle.std.specs.Prelude.{ℕ, ◌<◌, List, [], length}
 use Rattle.reinsertion_worth.specs.laws.All.{All}
-use Rattle.reinsertion_worth.specs.models.Problem.{Problem, depot, Fit, Stops, Admitted, problem_of}
+use Rattle.reinsertion_worth.specs.models.Problem.{Problem, Stops, problem_of}
 use Rattle.reinsertion_worth.specs.plan.Plan.{total}
 use Rattle.reinsertion_worth.specs.plan.Given.{plan_of}
 use Rattle.reinsertion_worth.specs.plan.declared.routes.Routes.{Routes}
@@ -9,13 +9,10 @@ use Rattle.reinsertion_candidates.specs.declared.Move.{Move}
 
 -- a stop that is to be moved, of a problem that a search is given
 pub record Asked (p : Problem) (m : Move) : Type 0 where
-  pub admitted : Admitted p
   pub there : m.c < p.roads.size
 
 -- such a stop and a route, which has fewer stops than there can be places; no demand is read
 pub record Looked (p : Problem) (m : Move) (r : List ℕ) : Type 0 where
-  pub fit : Fit p.places p.roads
-  pub home : depot p < p.roads.size
   pub there : m.c < p.roads.size
   pub stops : Stops p.roads.size r
   pub few : length r < 256
@@ -25,8 +22,6 @@ module _ (p : Problem) where
       → Looked (problem_of [] p.places p.roads p.vehicle) m r
   looked_of m r a s f =
       record {
-        fit = a.admitted.fit;
-        home = a.admitted.depot_in;
         there = a.there;
         stops = s;
         few = f;

@@ -2,24 +2,19 @@
 -- candidates that end the search through the sorted list, which are those that reach the cut and those that pass the check; it is the place
 -- unless it reaches the cut (`place_is`, in proofs/PlaceIs). Assumes nothing.
 use Prim.Native.Nat.{ℕ, suc}
-use Rattle.std.specs.Prelude.{◌≡◌, Bool, not, ◌||◌, length, Float}
-use Rattle.std.proofs.Math.Path.{refl}
-use Rattle.std.proofs.Common.{ap, sym, ◌∙◌}
-use mathlib.Core.List.{List, [], ◌∷◌, map}
-use Rattle.std.proofs.Math.Bool.{true, false, cond}
+use Rattle.std.specs.Prelude.{Bool, not, ◌||◌, length, Float}
+use mathlib.Core.List.{List}
+use Rattle.std.proofs.Math.Bool.{true, cond}
 use Rattle.std.specs.Prelude.{Option, None, Some}
 use Rattle.std.specs.Float.Ieee.{le}
-use Rattle.reinsertion_worth.specs.floats.Binary64.{◌⊕◌, is_finite, total_rank, total_less}
+use Rattle.reinsertion_worth.specs.floats.Binary64.{◌⊕◌, is_finite, total_less}
 use Rattle.reinsertion_worth.specs.laws.Edits.{insert_at}
-use Rattle.reinsertion_worth.specs.laws.Loops.{loop, loop_same, foldl}
-use Rattle.reinsertion_worth.specs.laws.Sorts.{range}
-use Rattle.reinsertion_worth.specs.laws.Firsts.{Ordering, ordering_by, find, find_sorted, better, foldl_map, foldl_flat, foldl_keep, foldl_range}
+use Rattle.reinsertion_worth.specs.laws.Loops.{loop}
 use Rattle.reinsertion_worth.specs.models.Problem.{Problem}
 use Rattle.reinsertion_worth.specs.plan.Plan.{Plan, route}
 use Rattle.reinsertion_worth.specs.route_cost.declared.Insertion.{Insertion}
 use Rattle.reinsertion_worth.specs.route_load.Feasible.{has_room, checked}
 use Rattle.reinsertion_worth.specs.Worth.{soft, insertion_worth}
-use Rattle.reinsertion_candidates.specs.Candidates.{positions, candidates_in, candidates, nowhere, by_cost, trial, first_passing}
 
 -- ---- the pass
 

@@ -78,11 +78,7 @@ fn matrices_at(
     n: usize,
     vehicle: Vehicle,
     demand: &[i32],
-    flags: &[u8],
-    service: &[f64],
-    ready: &[f64],
-    due: &[f64],
-    penalty: &[f64],
+    places: &Customers,
 ) -> Option<()>
     ensures { Counted tally.old tally.new }
 {
@@ -90,13 +86,6 @@ fn matrices_at(
     let distances = numbers.fill(&mut distances_room)?;
     let mut times_room = [0.0; MATRIX];
     let times = numbers.fill(&mut times_room)?;
-    let places = Customers {
-        service,
-        ready,
-        due,
-        penalty,
-        flags,
-    };
     let roads = DistanceMatrix {
         size: n,
         distances,
@@ -104,7 +93,7 @@ fn matrices_at(
     };
     let problem = Problem {
         demand,
-        places: &places,
+        places,
         roads: &roads,
         vehicle,
     };
@@ -129,9 +118,14 @@ fn windows_at(
     let due = numbers.fill(&mut due_room)?;
     let mut penalty_room = [0.0; PLACES];
     let penalty = numbers.fill(&mut penalty_room)?;
-    matrices_at(
-        numbers, tally, n, vehicle, demand, flags, service, ready, due, penalty,
-    )
+    let places = Customers {
+        service,
+        ready,
+        due,
+        penalty,
+        flags,
+    };
+    matrices_at(numbers, tally, n, vehicle, demand, &places)
 }
 
 // One case, whose calls are counted as far as they are of the form.

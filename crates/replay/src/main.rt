@@ -5,9 +5,7 @@
 mod cases;
 
 use cases::case_at;
-use replayed_calls::{
-    Customers, DistanceMatrix, Numbers, Problem, Tally, print_fault, print_misfit, print_too_long,
-};
+use replayed_calls::{Numbers, Tally, print_fault, print_misfit, print_too_long};
 use room::zeros;
 
 // Room for the input: half a megabyte.
@@ -21,9 +19,9 @@ fn replay(text: &[u8]) {
         print_misfit();
         return;
     };
-    for done in 0..cases {
+    for case in 1..=cases {
         if case_at(&mut numbers, &mut tally).is_none() {
-            print_fault(done + 1);
+            print_fault(case);
             return;
         }
     }

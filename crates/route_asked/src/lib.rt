@@ -6,7 +6,7 @@ ghost use Rattle.route_asked.specs.RouteAsked.{route_question};
 ghost use Rattle.worth_questions.specs.models.Lent.{of_problem};
 
 use stored_answers::{Stored, of_checked, of_evaluated, of_number};
-use worth_questions::{Problem, Vehicle, VehicleBreak};
+use worth_questions::{Problem, VehicleBreak};
 
 // What is asked of a route.
 #[derive(Clone, Copy)]

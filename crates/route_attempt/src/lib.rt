@@ -6,20 +6,19 @@ ghost use Rattle.plan_copy.specs.plan.Plan.{split};
 ghost use Rattle.plan_copy.specs.plan.Given.{plan_of, Keeps};
 ghost use Rattle.route_without.specs.route_cost.Route.{cost};
 ghost use Rattle.route_without.specs.pool_cost.Attempt.{attempt};
-ghost use Rattle.route_without.specs.ejection_pool.Running.{allowed};
+ghost use Rattle.route_without.specs.ejection_pool.Running.{allowed, of_minimisation};
 ghost use Rattle.route_without.specs.local_search.Search.{but_last};
 ghost use Rattle.route_without.specs.pool_attempt.Judged.{tried};
 ghost use Rattle.route_without.specs.Attempting.{Attempting};
 ghost use Rattle.route_attempt.specs.Leaves.{Leaves};
-ghost use Rattle.route_without.specs.evaluation.Given.{of_instance};
 
 use plan_copy::{keep, restore};
 use route_without::routes::Routes;
-use route_without::{Counts, Instance, Vehicle, try_without};
+use route_without::{Counts, try_without};
 
 // Of the crates below, passed on to those above.
 pub use plan_copy::drop_empty;
-pub use route_without::{Allowance, Times, routes};
+pub use route_without::{Minimisation, Times, routes};
 
 // The work cells of a call: in the first 512 of `work` the plan stands while an attempt is made, in the others the attempt works.
 #[derive(Drop)]
@@ -34,18 +33,17 @@ pub struct Bench<'a, 'b> {
 pub fn attempt(
     routes: &mut Routes,
     bench: &mut Bench,
-    allowance: Allowance,
     r: usize,
     before: f64,
     counted: Counts,
-    given: &Instance,
+    given: &Minimisation,
 ) -> Result<Counts, Counts>
-    requires attempting { Attempting (of_instance given.now) allowance.tape.now allowance.limit routes.old counted }
+    requires attempting { Attempting (of_minimisation given.now) given.now.allowance.limit routes.old counted }
     requires r_in_bounds { r < length routes.old.lengths.now }
-    requires before_value { before ≡ cost (of_instance given.now) (plan_of routes.old) }
+    requires before_value { before ≡ cost (of_minimisation given.now) (plan_of routes.old) }
     requires few { length routes.old.lengths.now ≤ 256 }
-    ensures plan { tried result (split (but_last routes.new.lengths.now) routes.new.stops.now) ≡ attempt (allowed allowance.entry)
-        (of_instance given.now) (plan_of routes.old) r counted }
+    ensures plan { tried result (split (but_last routes.new.lengths.now) routes.new.stops.now) ≡ attempt (allowed given.now.allowance)
+        (of_minimisation given.now) (plan_of routes.old) r counted }
     ensures held { Leaves result routes.old routes.new }
     ensures kept { Keeps routes.old routes.new }
 {
@@ -55,7 +53,6 @@ pub fn attempt(
         routes,
         &mut work[512..],
         &mut bench.times,
-        allowance,
         r,
         before,
         counted,

@@ -5,7 +5,7 @@ ghost use Rattle.std.specs.Prelude.{◌≡◌, ◌<◌};
 ghost use Rattle.trial_route.specs.models.Problem.{Square, Stops};
 ghost use Rattle.trial_route.specs.evaluation.Eval.{drive, drive_all, home};
 
-use trial_route::{Label, customer_at, get, serve_at, travel_time};
+use trial_route::{customer_at, get, serve_at, travel_time};
 
 // Of the crates below, passed on to those above.
 pub use trial_route::{
@@ -56,8 +56,7 @@ pub fn home(
 {
     let distance = walk.distance + get(roads, walk.prev, depot);
     let duration = walk.label.time + travel_time(roads, walk.prev, depot);
-    if limits.allow(distance, duration) {
-        return Some(RouteEval::of(walk.label, distance, duration, None));
-    }
-    None
+    limits
+        .allow(distance, duration)
+        .then_some(RouteEval::of(walk.label, distance, duration, None))
 }

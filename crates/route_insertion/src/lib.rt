@@ -2,7 +2,7 @@
 // where the route has room and keeps its windows.
 #![tactic(auto)]
 
-ghost use Rattle.std.specs.Prelude.{◌≡◌, [], suc, ◌<◌, ◌≤◌, length};
+ghost use Rattle.std.specs.Prelude.{◌≡◌, [], suc, ◌<◌, length};
 ghost use Rattle.insertion.specs.laws.Loops.{loop};
 ghost use Rattle.insertion.specs.models.Problem.{Stops};
 ghost use Rattle.insertion.specs.route_times.Prepared.{held};
@@ -30,7 +30,7 @@ fn try_positions(
         (pass_position (of_fleet fleet.now) c k route.now (held (length route.now) times.now)) best }
 {
     let mut found = best;
-    for pos in 0..route.len() + 1 {
+    for pos in 0..=route.len() {
         found = try_position(route, times, pos, c, k, found, fleet);
     }
     found

@@ -15,9 +15,8 @@ use Rattle.route_cost.specs.laws.Ints.{nat_abs_add, sfits_abs}
 use Rattle.route_cost.specs.laws.Loops.{foldl, fold_more, fold_end}
 use Rattle.route_cost.specs.laws.Edits.{insert_at}
 use Rattle.route_cost.specs.models.declared.limits.RouteLimits.{RouteLimits}
-use Rattle.route_cost.specs.models.declared.vehicle.Vehicle.{Vehicle}
 use Rattle.route_cost.specs.models.Customer.{Customers}
-use Rattle.route_cost.specs.models.Problem.{DistanceMatrix, Problem, of_demand, Demands, Stops}
+use Rattle.route_cost.specs.models.Problem.{DistanceMatrix, Problem, Demands, Stops}
 use Rattle.route_cost.specs.evaluation.Check.{route_feasible}
 use Rattle.route_load.specs.Feasible.{demand_at, load, fits, has_room, checked, feasible}
 use Rattle.route_load.specs.RouteLaws.{has_room_fits}
@@ -117,12 +116,7 @@ module _ (demand : List ℤ) (d : Demands (length demand) demand) where
     pub load_within : (most : ℤ) → SFits w32 most → le_z (to_z w32 (of_z w32 x)) (to_z w32 (of_z w32 most)) ≡ le_z (load demand route) most
     load_within most f = rw (load_back, to_z-of_z w32 most f)
 
-    pub room_in : (vehicle : Vehicle) (c : ℕ) (v : Bool) → v ≡ le_z (to_z w32 (of_z w32 x) +ℤ demand_at demand c) vehicle.capacity
-        → v ≡ has_room (of_demand demand vehicle) route c
-    unfolding has_room
-    room_in vehicle c v ev = rw load_back at ev
-
-pub ruleset load_laws = (rules, room_fits, room_is, load_kept, load_within, room_in)
+pub ruleset load_laws = (rules, room_fits, room_is, load_kept, load_within)
 
 -- a demand for each of n places is one for each of its cells
 module _ (n : ℕ) (demand : List ℤ) (d : Demands n demand) where

@@ -1,10 +1,9 @@
 -- Laws of one route: the load of a route with a stop put in, the check where it is not needed, what a feasible route keeps; and the cost of a
 -- plan is an f64, wherever the sum starts. Assumes nothing.
-use Rattle.std.specs.Prelude.{ℕ, ◌≡◌, Bool, true, false, not, ◌&&◌, ◌||◌, get_or, take, ℤ, pos as nonneg, ◌+ℤ◌, T, Float}
+use Rattle.std.specs.Prelude.{ℕ, ◌≡◌, Bool, true, false, not, ◌||◌, take, ℤ, pos as nonneg, ◌+ℤ◌, T, Float}
 use Rattle.std.proofs.Math.Path.{refl, sym, ap}
-use Rattle.std.proofs.Common.{◌∙◌, true≢false, take-append-drop}
+use Rattle.std.proofs.Common.{◌∙◌, take-append-drop}
 use mathlib.Core.List.{List, [], ◌∷◌, ◌++◌}
-use Rattle.std.proofs.lemmas.Bool.{false≢true}
 use Rattle.std.proofs.Math.ListN.{drop}
 use Rattle.std.proofs.Math.IntN.{+ℤ_idl, +ℤ_idr, +ℤ_assoc, +ℤ_comm}
 use Rattle.std.specs.Float.{binary64}

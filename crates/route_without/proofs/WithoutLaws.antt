@@ -18,8 +18,7 @@ use Rattle.route_removal.specs.plan.Slices.{length_split, flat_split_all, total_
 use Rattle.pool_attempt.specs.local_search.declared.rounds.Counts.{Counts}
 use Rattle.pool_attempt.specs.route_cost.Route.{cost}
 use Rattle.pool_attempt.specs.local_search.Search.{EndsWith0, but_last}
-use Rattle.pool_attempt.specs.ejection_made.declared.pool.Pool.{Pool}
-use Rattle.pool_attempt.specs.ejection_made.Made.{pooled}
+use Rattle.pool_attempt.specs.ejection_made.Made.{Stack, pooled}
 use Rattle.pool_attempt.specs.ejection_pool.Pool.{Allowance, run_pool, empty_into}
 use Rattle.pool_attempt.specs.pool_cost.Attempt.{attempt}
 use Rattle.pool_attempt.specs.ejection_pool.Running.{Running, state}
@@ -27,8 +26,8 @@ use Rattle.pool_attempt.specs.Judged.{tried, judged}
 use Rattle.route_without.specs.Attempting.{Attempting}
 
 -- `new` is what `erase_route` leaves of `old`, of whose lengths the first m are lent; the pool has the route's stops
-module _ {p : Problem} {tape : List ℕ} {limit : ℕ} {old : Routes} {counted : Counts} (r : ℕ)
-    (g : Attempting p tape limit old counted) (there : r < length old.lengths.now) (new : Routes) (pool : Pool) (m : ℕ)
+module _ {p : Problem} {limit : ℕ} {old : Routes} {counted : Counts} (r : ℕ)
+    (g : Attempting p limit old counted) (there : r < length old.lengths.now) (new : Routes) (pool : Stack) (m : ℕ)
     (e : new.lengths.now ≡ erase r old.lengths.now ++ 0 ∷ [])
     (h : Holds (erase r (plan_of old)) (total old.lengths.now - get_or old.lengths.now r 0) (erase r old.lengths.now) new.stops.now)
     (kept : Keeps old new) (top : pooled pool ≡ reverse (route r (plan_of old))) (last : m ≡ length new.lengths.now - 1) where
@@ -50,13 +49,12 @@ module _ {p : Problem} {tape : List ℕ} {limit : ℕ} {old : Routes} {counted :
   pub starts_lent : Lent (take m new.lengths.now) new.stops.now
   starts_lent = rw front (record { inside = omega (arith, h.sum, g.whole, kept.room); few = omega (arith, kept.room, g.few) })
 
-  pub starts_running : {work : List ℕ} → 256 ≤ length pool.cells.now → length old.stops.now ≤ length work
-      → Running p tape limit (split (take m new.lengths.now) new.stops.now) (length new.stops.now) pool work (replicate p.roads.size 1) counted
-  starts_running room free =
+  pub starts_running : {work : List ℕ} → length old.stops.now ≤ length work
+      → Running p limit (split (take m new.lengths.now) new.stops.now) (length new.stops.now) pool work (replicate p.roads.size 1) counted
+  starts_running free =
       let plan = plan_of old in
       let own : length (flat plan) ≡ length old.stops.now = ap length (flat_split_all old.lengths.now old.stops.now g.whole) in
       record {
-        drawable = g.drawable;
         few = omega (arith, kept.room, g.few);
         pooled = record {
           places = λ c i. rw (rest, top) (omega (arith, count_reverse c (route r plan), occurs_erase c r plan in_plan, g.planned.places c i));
@@ -65,7 +63,6 @@ module _ {p : Problem} {tape : List ℕ} {limit : ℕ} {old : Routes} {counted :
           counted = λ k. omega (arith, most_one p.roads.size k, g.limited);
           drawn = g.drawn;
         };
-        pool_room = room;
         work_room = omega (arith, kept.room, free);
       }
     where

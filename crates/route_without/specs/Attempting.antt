@@ -1,5 +1,5 @@
 -- What an attempt asks for, as the code makes it. Assumes nothing.
-use Rattle.std.specs.Prelude.{ℕ, ◌+◌, ◌*◌, ◌≤◌, ◌<◌, ◌≡◌, List, length}
+use Rattle.std.specs.Prelude.{ℕ, ◌+◌, ◌*◌, ◌≤◌, ◌<◌, ◌≡◌, length}
 use Rattle.pool_attempt.specs.models.Problem.{Problem}
 use Rattle.route_removal.specs.plan.Plan.{total}
 use Rattle.route_removal.specs.plan.Given.{plan_of}
@@ -8,8 +8,7 @@ use Rattle.pool_attempt.specs.local_search.declared.rounds.Counts.{Counts}
 use Rattle.pool_attempt.specs.local_search.Planned.{Planned}
 
 -- an attempt at a route of a plan that fills both slices
-pub record Attempting (p : Problem) (tape : List ℕ) (limit : ℕ) (routes : Routes) (counts : Counts) : Type 0 where
-  pub drawable : 0 < length tape
+pub record Attempting (p : Problem) (limit : ℕ) (routes : Routes) (counts : Counts) : Type 0 where
   pub whole : total routes.lengths.now ≡ length routes.stops.now
   pub few : length routes.stops.now ≤ 255
   pub planned : Planned p.roads.size (plan_of routes)

@@ -6,8 +6,7 @@ ghost use Rattle.route_drive.specs.models.Problem.{Stops};
 ghost use Rattle.route_drive.specs.evaluation.Eval.{route_eval, effective_cost};
 
 use route_drive::{
-    RouteEval, VehicleBreak, Walk, break_schedule_schedule as schedule, drive_all, home, infinity,
-    limited,
+    RouteEval, Walk, break_schedule_schedule as schedule, drive_all, home, infinity, limited,
 };
 
 // Of the crates below, passed on to those above.

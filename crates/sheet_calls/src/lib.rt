@@ -9,7 +9,7 @@ ghost use Rattle.sheet_elimination.specs.sheet_laws.Short.{Short};
 ghost use Rattle.sheet_elimination.specs.sheet_answers.Printed.{planned, sheet_of};
 ghost use Rattle.minimise_call.specs.models.Lent.{of_problem};
 
-use minimise_call::{Vehicle, minimise};
+use minimise_call::minimise;
 use sheet_elimination::list_eliminated;
 
 // Of the crates below, passed on to those above.

@@ -1,7 +1,7 @@
 // Reads the draws of a sheet into a lent slice.
 #![tactic(auto)]
 
-ghost use Rattle.std.specs.Prelude.{◌≡◌, ◌≤◌, length, take, IfOk};
+ghost use Rattle.std.specs.Prelude.{◌≤◌, length, take, IfOk};
 ghost use Rattle.sheet_reader.specs.sheet_text.Text.{repeat, lf};
 ghost use Rattle.sheet_reader.specs.sheet_text.Text.{before as Text·before, number as Text·number};
 ghost use Rattle.sheet_reader.specs.sheet_text.Told.{Reads, told_as};

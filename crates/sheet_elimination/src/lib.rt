@@ -9,9 +9,9 @@ ghost use Rattle.sheet_answers.specs.sheet_laws.Short.{Short};
 ghost use Rattle.sheet_answers.specs.Printed.{eliminated};
 ghost use Rattle.eliminate_call.specs.models.Lent.{of_problem};
 
-use eliminate_call::{Counts, Problem, Vehicle, eliminate};
+use eliminate_call::{Counts, Problem, eliminate};
+use listing_whole::each::EachRoute;
 use listing_whole::put_listing;
-use listing_whole::routes::Routes;
 
 // Of the crates below, passed on to those above.
 pub use listing_whole::{Refusal, put_refusal};
@@ -35,11 +35,11 @@ pub fn list_eliminated(
     let e = eliminate(lengths, stops, work, cells, problem);
     match e {
         Ok(d) => {
-            let routes = Routes {
-                lengths: &mut lengths[..d.routes],
+            let routes = EachRoute {
+                lengths: &lengths[..d.routes],
                 stops,
             };
-            put_listing(out, &routes, counts, given, problem)
+            put_listing(out, routes, counts, given, problem)
         }
         Err(refusal) => put_refusal(out, refusal),
     }

@@ -1,7 +1,6 @@
 // The fields of a line: a number, one that may be negative, one that may be none; and a field with the byte behind it.
 #![tactic(auto)]
 
-ghost use Rattle.std.specs.Prelude.{◌≡◌};
 ghost use Rattle.std.specs.Fn.{FnOnceReturnsAtMut};
 ghost use Rattle.sheet_text.specs.Text.{before as Text·before};
 ghost use Rattle.sheet_text.specs.Text.{signed as Text·signed, optional as Text·optional};

@@ -1,5 +1,4 @@
 // A place's line.
-ghost use Rattle.std.specs.Prelude.{◌≡◌};
 ghost use Rattle.sheet_fields.specs.sheet_text.Told.{Reads, told};
 ghost use Rattle.sheet_format.specs.Form.{optional_float_before as Form·optional-float-before};
 ghost use Rattle.sheet_format.specs.Form.{window as Form·window, place as Form·place};

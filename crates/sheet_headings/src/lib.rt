@@ -1,7 +1,6 @@
 // Reads words, and the heading of a section.
 #![tactic(auto)]
 
-ghost use Rattle.std.specs.Prelude.{◌≡◌};
 ghost use Rattle.sheet_text.specs.refusal.Number.{number as refusal_number};
 ghost use Rattle.sheet_text.specs.Text.{word as Text·word};
 ghost use Rattle.sheet_text.specs.Told.{Reads, told};

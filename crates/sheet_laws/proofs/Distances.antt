@@ -1,29 +1,22 @@
 -- The distances of a sheet are whole numbers of at most nine digits, so a route's distance is their sum, with nothing rounded, and prints as that
 -- number. Assumes nothing.
-use Prim.Native.Nat.{ℕ, zero, suc, ◌+◌, ◌*◌, ◌^◌, ◌≤◌, ◌<◌}
-use mathlib.Core.Path.{◌≡◌, refl, ap, sym, ◌∙◌, subst}
+use Prim.Native.Nat.{ℕ, suc, ◌+◌, ◌*◌, ◌^◌, ◌≤◌, ◌<◌}
+use mathlib.Core.Path.{◌≡◌, ap, sym, ◌∙◌, subst}
 use mathlib.Core.List.{List, [], ◌∷◌, map}
 use native.Mathlib.Omega.{arith}
 use native.Mathlib.Nat.{suc-mul, zero-mul}
 use lib.Dec.{T}
-use lib.ListN.{length, get_or, drop, length-map, get_or-map}
-use lib.Seq.{drop-cons}
-use lib.Ieee.{Float, nan, binary64, in_unsigned, to_unsigned}
+use lib.ListN.{length, get_or, length-map, get_or-map}
+use lib.Ieee.{Float, nan, binary64, in_unsigned}
 use Rattle.entry.specs.floats.Binary64.{◌⊕◌}
 use Rattle.entry.specs.floats.Whole.{nat, nat_zero, nat_add, nat_back}
-use Rattle.entry.specs.laws.All.{All, all_nil, all_cons, all_get}
+use Rattle.entry.specs.laws.All.{All, all_cons, all_get}
+use Rattle.entry.specs.laws.Lists.{get_d_any}
 use Rattle.entry.specs.laws.Matrix.{in_matrix}
 use Rattle.entry.specs.models.Problem.{matrix}
 use Rattle.entry.specs.distance.Matrix.{get}
 use Rattle.entry.specs.route_cost.Route.{legs, route_distance}
 use Rattle.listing.specs.Listing.{whole}
-
--- a cell that is there, whatever stands for one that is not
-there : {A : Type 0} (l : List A) (k : ℕ) (d e : A) → k < length l → get_or l k d ≡ get_or l k e
-there l k d e h =
-    let a : drop k l ≡ get_or l k d ∷ drop (suc k) l = drop-cons l k d h in
-    let b : drop k l ≡ get_or l k e ∷ drop (suc k) l = drop-cons l k e h in
-    cc
 
 -- the matrix of n × n whole numbers, none above `most`
 module _ (n : ℕ) (cells : List ℕ) (times : List Float) (size : length cells ≡ n * n) (most : ℕ) (small : All (λ v. v ≤ most) cells) where
@@ -37,7 +30,7 @@ module _ (n : ℕ) (cells : List ℕ) (times : List Float) (size : length cells 
     leg_is : get (matrix n (map nat cells) times) from to ≡ nat (leg from to)
     unfolding leg
     leg_is =
-        there (map nat cells) (from * n + to) nan (nat 0) (omega (arith, in_cells, length-map cells nat))
+        get_d_any (map nat cells) (from * n + to) nan (nat 0) (omega (arith, in_cells, length-map cells nat))
         ∙ get_or-map nat cells (from * n + to) 0
 
     leg_small : leg from to ≤ most

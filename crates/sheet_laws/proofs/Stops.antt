@@ -2,10 +2,10 @@
 -- is no place, and neither is 65,535. Assumes nothing.
 use Prim.Native.Nat.{ℕ, zero, suc, ◌≤◌, ◌<◌}
 use mathlib.Core.Path.{◌≡◌, refl, ap, sym, ◌∙◌}
-use mathlib.Core.Bool.{Bool, true, false, cond, not, ◌&&◌, ◌||◌}
+use mathlib.Core.Bool.{Bool, true, false, cond, not, ◌&&◌}
 use mathlib.Core.List.{List, [], ◌∷◌, map}
 use native.Mathlib.Omega.{arith}
-use borrow.Author.Tests.{leb-true, leb-false, le-leb, ltb-true, lt-ltb, le-ltb, ne_eqb}
+use borrow.Author.Tests.{leb-true, leb-false, le-leb, ltb-true, le-ltb, ne_eqb}
 use lib.Dec.{leb, ltb, eqb}
 use lib.ListN.{length, take, get_or, length-map, get_or-map}
 use Rattle.entry.specs.laws.Searches.{any, every}

@@ -2,7 +2,7 @@
 #![tactic(auto)]
 
 ghost use Rattle.std.specs.Prelude.{◌≡◌, ◌*◌, ◌≤◌, length, take};
-ghost use Rattle.sheet_whole.specs.sheet_reader.Cells.{columns_of, Room as ColumnRoom};
+ghost use Rattle.sheet_whole.specs.sheet_reader.Cells.{of_columns, Room as ColumnRoom};
 ghost use Rattle.sheet_whole.specs.Whole.{sheet_in};
 ghost use Rattle.sheet_calls.specs.listing.Written.{Written};
 ghost use Rattle.sheet_calls.specs.sheet_laws.Short.{Short};
@@ -13,6 +13,7 @@ use sheet_whole::parts::Sheet;
 
 // Of the crates below, passed on to those above.
 pub use sheet_calls::{Refusal, put_refusal};
+pub use sheet_whole::Columns;
 pub use sheet_whole::sheet::sheet as sheet_whole_sheet;
 
 // Plans what the slices hold of a sheet.
@@ -23,26 +24,20 @@ pub fn list_parts(
     work: &mut [u16],
     cells: &mut [f64],
     tape: &[u64],
-    demand: &[i32],
-    service: &[f64],
-    ready: &[f64],
-    due: &[f64],
-    penalty: &[f64],
-    flags: &[u8],
+    columns: &Columns,
     distances: &[f64],
     times: &[f64],
     read: Sheet,
 ) -> usize
     requires in_bounds { (6000 ≤ length out.old) × (length work.old ≡ 8192) × (length cells.old ≡ 2048) }
     requires in_bounds_2 { (64 ≤ length lengths.old) × (64 ≤ length stops.old) × (1024 ≤ length tape.now) }
-    requires column_room { ColumnRoom 64 (columns_of demand.now service.now ready.now due.now penalty.now flags.now) }
+    requires column_room { ColumnRoom 64 (of_columns columns.now) }
     requires in_bounds_3 { (4096 ≤ length distances.now) × (4096 ≤ length times.now) }
-    requires n_bound { (read.head.n ≤ 64) × (read.head.timed ≤ read.head.n) × (read.request.draws ≤ 1024) × (read.request.given ≤ 64)
-        × (read.request.used ≤ 64) }
+    requires n_bound { (read.head.n ≤ 64) × (read.head.timed ≤ read.head.n) × (read.request.draws ≤ 1024) × (read.request.plan.given ≤ 64)
+        × (read.request.plan.used ≤ 64) }
     requires short { Short read.head.n (take (read.head.n * read.head.n) distances.now) }
     ensures { Written out.old 0 (planned
-        (sheet_in lengths.old stops.old tape.now (columns_of demand.now service.now ready.now due.now penalty.now flags.now) distances.now times.now
-        read.head read.request.draws read.request.given read.request.used read.request.limit read.request.clock)) out.new result }
+        (sheet_in lengths.old stops.old tape.now (of_columns columns.now) distances.now times.now read)) out.new result }
 {
     let n = read.head.n;
     let timed = read.head.timed;
@@ -51,11 +46,11 @@ pub fn list_parts(
     let m = n * n;
     let t = timed * timed;
     let places = Customers {
-        service: &service[..n],
-        ready: &ready[..n],
-        due: &due[..n],
-        penalty: &penalty[..n],
-        flags: &flags[..n],
+        service: &columns.service[..n],
+        ready: &columns.ready[..n],
+        due: &columns.due[..n],
+        penalty: &columns.penalty[..n],
+        flags: &columns.flags[..n],
     };
     let roads = DistanceMatrix {
         size: n,
@@ -63,21 +58,21 @@ pub fn list_parts(
         times: &times[..t],
     };
     let problem = Problem {
-        demand: &demand[..n],
+        demand: &columns.demand[..n],
         places: &places,
         roads: &roads,
         vehicle,
     };
     list_planned(
         out,
-        &mut lengths[..asked.given],
-        &mut stops[..asked.used],
+        &mut lengths[..asked.plan.given],
+        &mut stops[..asked.plan.used],
         work,
         cells,
         Allowance {
             tape: &tape[..asked.draws],
-            limit: asked.limit,
-            clock: asked.clock,
+            limit: asked.run.limit,
+            clock: asked.run.clock,
         },
         &problem,
     )

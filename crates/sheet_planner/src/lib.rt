@@ -7,7 +7,7 @@ ghost use Rattle.sheet_listing.specs.sheet_answers.Printed.{printed};
 ghost use Rattle.sheet_planner.specs.Output.{output, into};
 
 use room::zeros;
-use sheet_listing::list_read;
+use sheet_listing::{Columns, list_read};
 
 // The most places, the most routes and the most stops of a sheet.
 const MOST: usize = 64;
@@ -42,6 +42,14 @@ fn listed(out: &mut [u8], text: &[u8]) -> usize
     let mut flags: [u8; MOST] = zeros();
     let mut distances: [f64; SQUARE] = zeros();
     let mut times: [f64; SQUARE] = zeros();
+    let mut columns = Columns {
+        demand: &mut demand,
+        service: &mut service,
+        ready: &mut ready,
+        due: &mut due,
+        penalty: &mut penalty,
+        flags: &mut flags,
+    };
     list_read(
         out,
         &mut lengths,
@@ -49,12 +57,7 @@ fn listed(out: &mut [u8], text: &[u8]) -> usize
         &mut work,
         &mut cells,
         &mut tape,
-        &mut demand,
-        &mut service,
-        &mut ready,
-        &mut due,
-        &mut penalty,
-        &mut flags,
+        &mut columns,
         &mut distances,
         &mut times,
         text,

@@ -14,7 +14,7 @@ use Rattle.sheet_cells.specs.sheet_text.Told.{Reads, seen}
 use Rattle.sheet_cells.specs.SheetTextReadLaws.{Left, seen_got, got_of, refused_of}
 use Rattle.sheet_cells.specs.sheet_format.declared.places.Place.{Place}
 use Rattle.sheet_cells.specs.sheet_format.Form.{ready_cell, due_cell, penalty_cell, flags_cell, place}
-use Rattle.sheet_reader.specs.Cells.{Columns, columns_of, columns, first_cells, join, add_place, Room, Sizes}
+use Rattle.sheet_reader.specs.Cells.{Columns, columns_of, columns, first_cells, join, add_place, Room}
 use Rattle.sheet_reader.proofs.FillLaws.{left_as, fill_end, fill_fault, fill_turn}
 
 -- a cell that is filled
@@ -23,31 +23,32 @@ added l i x h =
     let k : i < length l = omega arith in
     rw (add-one, take-suc-set l i x)
 
-module _ (d : List ℤ) (v r e p : List Float) (f : List ℕ) (i : ℕ) (room : Room (i + 1) (columns_of d v r e p f)) where
-  abbrev before : Columns
-  before = first_cells i (columns_of d v r e p f)
+module _ (c : Columns) (i : ℕ) (room : Room (i + 1) c) where
+  -- the cells of place i, filled
+  abbrev put : ℤ → Float → Float → Float → Float → ℕ → Columns
+  put d v r e p f = columns_of (set c.demand i d) (set c.service i v) (set c.ready i r) (set c.due i e) (set c.penalty i p) (set c.flags i f)
 
   cells_filled
       : (x : Place)
       → first_cells
       (i + 1)
-      (columns_of
-      (set d i x.demand)
-      (set v i x.customer.service_duration)
-      (set r i (ready_cell x.customer.time_window))
-      (set e i (due_cell x.customer.time_window))
-      (set p i (penalty_cell x.customer.lateness_penalty))
-      (set f i (flags_cell x.customer.time_window x.customer.lateness_penalty)))
-      ≡ add_place before x
+      (put
+      x.demand
+      x.customer.service_duration
+      (ready_cell x.customer.time_window)
+      (due_cell x.customer.time_window)
+      (penalty_cell x.customer.lateness_penalty)
+      (flags_cell x.customer.time_window x.customer.lateness_penalty))
+      ≡ add_place (first_cells i c) x
   unfolding first_cells join columns
   cells_filled x =
       rw (
-        added d i x.demand room.demands,
-        added v i x.customer.service_duration room.services,
-        added r i (ready_cell x.customer.time_window) room.readies,
-        added e i (due_cell x.customer.time_window) room.dues,
-        added p i (penalty_cell x.customer.lateness_penalty) room.penalties,
-        added f i (flags_cell x.customer.time_window x.customer.lateness_penalty) room.flag_cells,
+        added c.demand i x.demand room.demands,
+        added c.service i x.customer.service_duration room.services,
+        added c.ready i (ready_cell x.customer.time_window) room.readies,
+        added c.due i (due_cell x.customer.time_window) room.dues,
+        added c.penalty i (penalty_cell x.customer.lateness_penalty) room.penalties,
+        added c.flags i (flags_cell x.customer.time_window x.customer.lateness_penalty) room.flag_cells,
       )
 
   -- the line of a place, in the cells
@@ -59,10 +60,10 @@ module _ (d : List ℤ) (v r e p : List Float) (f : List ℕ) (i : ℕ) (room : 
       → yu ≡ due_cell x.customer.time_window
       → yp ≡ penalty_cell x.customer.lateness_penalty
       → yf ≡ flags_cell x.customer.time_window x.customer.lateness_penalty
-      → Reads (seen (add_place before) place) t
-      (got (first_cells (i + 1) (columns_of (set d i y) (set v i x.customer.service_duration) (set r i yr) (set e i yu) (set p i yp) (set f i yf)))) u
+      → Reads (seen (add_place (first_cells i c)) place) t (got (first_cells (i + 1) (put y x.customer.service_duration yr yu yp yf))) u
   place_filled {t} {u} {x} h hy hr hu hp hf =
-      rw (hy, hr, hu, hp, hf) (subst (λ (c : Columns). Reads (seen (add_place before) place) t (got c) u) (sym (cells_filled x)) (seen_got (add_place before) h))
+      rw (hy, hr, hu, hp, hf)
+      (subst (λ (d : Columns). Reads (seen (add_place (first_cells i c)) place) t (got d) u) (sym (cells_filled x)) (seen_got (add_place (first_cells i c)) h))
 
 -- ---- places one after the other
 
@@ -106,17 +107,3 @@ module _ (c : Columns) (i left : ℕ) {whole : Parser Columns} {old t : Text} (l
         let x = got_of (add_place (first_cells i c)) g in
         fill_turn (λ l. place) (behind i c) left l m h (behind (i + 1) d) x.1
         (λ ps. join_more (first_cells i c) x.0 ps ∙ ap (λ (b : Columns). join b (columns ps)) (sym x.2))
-
-pub room_now : (c first : Columns) (n m : ℕ) → Room n first → Sizes c first → m ≤ n → Room m c
-room_now c first n m room same h =
-    record {
-      demands = omega (arith, room.demands, same.demands);
-      services = omega (arith, room.services, same.services);
-      readies = omega (arith, room.readies, same.readies);
-      dues = omega (arith, room.dues, same.dues);
-      penalties = omega (arith, room.penalties, same.penalties);
-      flag_cells = omega (arith, room.flag_cells, same.flag_cells);
-    }
-
-pub sizes_same : (c : Columns) → Sizes c c
-sizes_same c = record { demands = refl; services = refl; readies = refl; dues = refl; penalties = refl; flag_cells = refl }

@@ -16,9 +16,9 @@ pub fn number_row<T: Copy, F: Fn(u32) -> T>(
         (told_as (λ done. cells.new) result) text.new }
 {
     let k = cells.len();
-    for i in 0..k {
+    for (i, slot) in cells.iter_mut().enumerate() {
         let v = before(text, number, ending(k - (i + 1)))?;
-        cells[i] = cell(v);
+        *slot = cell(v);
     }
     Ok(())
 }

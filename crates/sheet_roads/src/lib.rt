@@ -1,7 +1,7 @@
 // Reads the sections of the distances and of the times into lent slices.
 #![tactic(auto)]
 
-ghost use Rattle.std.specs.Prelude.{◌≡◌, ◌*◌, ◌≤◌, length, take, IfOk};
+ghost use Rattle.std.specs.Prelude.{◌*◌, ◌≤◌, length, take, IfOk};
 ghost use Rattle.sheet_squares.specs.sheet_text.Told.{Reads, told_as, seen};
 ghost use Rattle.sheet_squares.specs.sheet_format.Form.{distances as Form·distances, times as Form·times, roads as Form·roads, row_by_row};
 ghost use Rattle.sheet_squares.specs.models.Problem.{matrix};
@@ -9,7 +9,7 @@ ghost use Rattle.sheet_squares.specs.models.Problem.{matrix};
 use sheet_squares::{Refusal, Text, heading, square};
 
 // Of the crates below, passed on to those above.
-pub use sheet_squares::sheet_reader_places;
+pub use sheet_squares::{Columns, sheet_reader_places};
 
 // The section of the distances, as many rows as there are places.
 pub fn distances(cells: &mut [f64], text: &mut Text<'_>, n: usize) -> Result<(), Refusal>

@@ -1,5 +1,5 @@
 // The section of the routes.
-ghost use Rattle.std.specs.Prelude.{◌≡◌, ◌≤◌, length, take, IfOk};
+ghost use Rattle.std.specs.Prelude.{◌≤◌, length, take, IfOk};
 ghost use Rattle.sheet_reader.specs.sheet_text.Told.{Reads, told_as, seen};
 ghost use Rattle.sheet_reader.specs.sheet_format.Form.{route_line, route_lines, routes as Form·routes, slices_of};
 ghost use Rattle.sheet_routes.specs.Routes.{route_cells, plan_in};

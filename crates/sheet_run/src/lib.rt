@@ -1,7 +1,6 @@
 // The section of the run, and the end of the sheet.
 #![tactic(auto)]
 
-ghost use Rattle.std.specs.Prelude.{◌≡◌};
 ghost use Rattle.sheet_format.specs.sheet_text.Told.{Reads, told_as};
 ghost use Rattle.sheet_format.specs.Form.{run_line, last_run};
 ghost use Rattle.sheet_format.specs.Form.{run as Form·run};

@@ -1,14 +1,14 @@
 // Reads a square of numbers, as many lines as each has numbers, into lent cells row by row.
 #![tactic(auto)]
 
-ghost use Rattle.std.specs.Prelude.{◌≡◌, ◌*◌, ◌≤◌, length, take};
+ghost use Rattle.std.specs.Prelude.{◌*◌, ◌≤◌, length, take};
 ghost use Rattle.sheet_reader.specs.sheet_text.Told.{Reads, told_as, seen};
 ghost use Rattle.sheet_reader.specs.sheet_format.Form.{square as Form·square, row_by_row};
 
 use sheet_reader::rows::number_row;
 
 // Of the crates below, passed on to those above.
-pub use sheet_reader::places::places as sheet_reader_places;
+pub use sheet_reader::places::{Columns, places as sheet_reader_places};
 pub use sheet_reader::{Refusal, Text, heading};
 
 // n lines of n numbers, row by row.

@@ -12,13 +12,7 @@ pub fn peek(text: &Text<'_>) -> u16
     ensures value { result ≡ byte_at text.now.bytes.now text.now.at }
     ensures at_bound { result < 256 → text.now.at + 1 < 2 ^ 64 }
 {
-    let bytes = text.bytes;
-    let at = text.at;
-    if at < bytes.len() {
-        bytes[at] as u16
-    } else {
-        256
-    }
+    text.bytes.get(text.at).map_or(256, |byte| *byte as u16)
 }
 
 // One given byte.

@@ -1,7 +1,6 @@
 // Reads the section of the vehicle.
 #![tactic(auto)]
 
-ghost use Rattle.std.specs.Prelude.{◌≡◌};
 ghost use Rattle.sheet_format.specs.sheet_text.Told.{Reads, told};
 ghost use Rattle.sheet_format.specs.Form.{vehicle_line, vehicle as Form·vehicle};
 

@@ -3,6 +3,8 @@ use Rattle.std.specs.Prelude.{ℕ, List, take}
 use Rattle.sheet_draws.specs.plan.Plan.{Slices}
 use Rattle.sheet_draws.specs.sheet_text.Text.{Parser, ◌>>=◌, pure}
 use Rattle.sheet_draws.specs.sheet_format.Form.{Run, draws, routes, slices_of, last_run}
+use Rattle.sheet_routes.specs.Routes.{plan_in}
+use Rattle.sheet_run.specs.Run.{run_of}
 use Rattle.sheet_whole.specs.declared.parts.Request.{Request as RequestRead}
 
 -- a plan, and the tape, M and K of its run
@@ -22,11 +24,6 @@ request = do
   r ← last_run
   pure (request_of tape (slices_of plan) r)
 
--- the request that the slices hold
-abbrev pub request_in : List ℕ → List ℕ → List ℕ → (draws routes used limit clock : ℕ) → Request
-request_in lengths stops tape draws routes used limit clock =
-    request_of (take draws tape) (record { lengths = take routes lengths; stops = take used stops }) (record { limit = limit; clock = clock })
-
--- the same of what the code answers
+-- the request that the slices hold, of what the code answers
 abbrev pub held : List ℕ → List ℕ → List ℕ → RequestRead → Request
-held lengths stops tape q = request_in lengths stops tape q.draws q.given q.used q.limit q.clock
+held lengths stops tape q = request_of (take q.draws tape) (plan_in lengths stops q.plan) (run_of q.run)

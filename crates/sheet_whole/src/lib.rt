@@ -6,4 +6,4 @@ pub mod request;
 pub mod sheet;
 
 // Of the crates below, passed on to those above.
-pub use sheet_problem::Head;
+pub use sheet_problem::{Columns, Head};

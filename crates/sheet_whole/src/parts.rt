@@ -1,14 +1,14 @@
 // What is read of a sheet, beside what its slices hold.
 use sheet_problem::Head;
+use sheet_routes::routes::PlanSize;
+use sheet_run::RunLine;
 
-// What is asked of the problem: how many draws, routes and stops there are, M and K.
+// What is asked of the problem: how many draws there are, how many routes and stops, M and K.
 #[derive(Clone, Copy)]
 pub struct Request {
     pub draws: usize,
-    pub given: usize,
-    pub used: usize,
-    pub limit: u64,
-    pub clock: u64,
+    pub plan: PlanSize,
+    pub run: RunLine,
 }
 
 // The head of the problem, and what is asked of it.

@@ -1,5 +1,5 @@
 // The last three sections: what is asked of the problem.
-ghost use Rattle.std.specs.Prelude.{◌≡◌, ◌≤◌, length, IfOk};
+ghost use Rattle.std.specs.Prelude.{◌≤◌, length, IfOk};
 ghost use Rattle.sheet_draws.specs.sheet_text.Told.{Reads, told_as};
 ghost use Rattle.sheet_whole.specs.Request.{request as Request·request, held};
 
@@ -18,16 +18,10 @@ pub fn request(
 ) -> Result<Request, Refusal>
     requires { (64 ≤ length lengths.old) × (64 ≤ length stops.old) × (1024 ≤ length tape.old) }
     ensures read { Reads Request·request text.old (told_as (held lengths.new stops.new tape.new) result) text.new }
-    ensures request_within { IfOk result (λ q. (q.draws ≤ 1024) × (q.given ≤ 64) × (q.used ≤ 64)) }
+    ensures request_within { IfOk result (λ q. (q.draws ≤ 1024) × (q.plan.given ≤ 64) × (q.plan.used ≤ 64)) }
 {
-    let drawn = draws(tape, text)?;
+    let draws = draws(tape, text)?;
     let plan = routes(lengths, stops, text)?;
     let run = last_run(text)?;
-    Ok(Request {
-        draws: drawn,
-        given: plan.given,
-        used: plan.used,
-        limit: run.limit,
-        clock: run.clock,
-    })
+    Ok(Request { draws, plan, run })
 }

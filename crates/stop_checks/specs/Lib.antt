@@ -2,6 +2,7 @@
 -- row 6 in code: the stops so far, marked
 pub mod Marks
 -- crates below, passed on to those above
+pub use Rattle.length_checks.specs.models as models
 pub use Rattle.length_checks.specs.labels as labels
 pub use Rattle.length_checks.specs.break_clock as break_clock
 pub use Rattle.length_checks.specs.evaluation as evaluation

@@ -1,17 +1,15 @@
 // Row 6 of the refusal table (entry, specs/Table.antt) in code: the stops of a plan or of a route.
 #![tactic(auto)]
 
-ghost use Rattle.std.specs.Prelude.{◌≡◌, [], ◌∷◌, ◌++◌, true, not, eqb};
+ghost use Rattle.std.specs.Prelude.{◌≡◌, ◌∷◌, ◌++◌, [], true, not, eqb};
 ghost use Rattle.length_checks.specs.laws.Searches.{any};
-ghost use Rattle.length_checks.specs.models.Problem.{of_distances};
+ghost use Rattle.length_checks.specs.models.Lent.{of_problem};
 ghost use Rattle.length_checks.specs.entry.Table.{stop_passes, stops_pass};
 ghost use Rattle.stop_checks.specs.Marks.{Marks};
 
-use length_checks::Vehicle;
-
 // Of the crates below, passed on to those above.
 pub use length_checks::{
-    Refusal, RouteEval, Work, bad_lengths, break_schedule_schedule, evaluation_check,
+    Problem, Refusal, RouteEval, Work, bad_lengths, break_schedule_schedule, evaluation_check,
     route_cost_gain_floor, route_cost_route_distance,
 };
 
@@ -32,26 +30,24 @@ fn mark_new(seen: &mut [bool], before: &[u16], c: u16) -> bool
 }
 
 // Whether c is a place, not the depot, and none of the stops before it, which are marked; if so c is marked too.
-fn stop_passes(seen: &mut [bool], n: usize, vehicle: Vehicle, before: &[u16], c: u16) -> bool
+fn stop_passes(seen: &mut [bool], before: &[u16], c: u16, problem: &Problem) -> bool
     requires { Marks seen.old before.now }
-    ensures value { result ≡ stop_passes (of_distances n [] vehicle) before.now c }
+    ensures value { result ≡ stop_passes (of_problem problem.now) before.now c }
     ensures marks { result ≡ true → Marks seen.new (before.now ++ c ∷ []) }
 {
-    if c as usize >= n || c as usize == vehicle.depot_id {
+    if c as usize >= problem.roads.size() || c as usize == problem.vehicle.depot_id {
         return false;
     }
     mark_new(seen, before, c)
 }
 
-// Whether row 6 lets the stops pass. Of n places at most n stops pass, so the loop ends after n + 1 of them at the latest.
-pub fn stops_pass(n: usize, vehicle: Vehicle, stops: &[u16]) -> bool
-    ensures { result ≡ stops_pass (of_distances n [] vehicle) stops.now }
+// Whether row 6 lets the stops pass. Of n places at most n stops pass, so it ends after n + 1 of them at the latest.
+pub fn stops_pass(stops: &[u16], problem: &Problem) -> bool
+    ensures { result ≡ stops_pass (of_problem problem.now) stops.now }
 {
     let mut seen = [false; 256];
-    for (i, c) in stops.iter().enumerate() {
-        if !stop_passes(&mut seen, n, vehicle, &stops[..i], *c) {
-            return false;
-        }
-    }
-    true
+    stops
+        .iter()
+        .enumerate()
+        .all(|(i, c)| stop_passes(&mut seen, &stops[..i], *c, problem))
 }

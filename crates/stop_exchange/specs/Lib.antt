@@ -9,5 +9,4 @@ pub use Rattle.perturbation.specs.local_search as local_search
 pub use Rattle.perturbation.specs as perturbation
 -- and their laws
 pub use Rattle.exchanged_stops.specs.PlanExchanges as PlanExchanges
-pub use Rattle.exchanged_stops.specs.PlanPlanLaws as PlanPlanLaws
 pub use Rattle.perturbation.proofs.MoveDraws as PerturbationMoveDraws

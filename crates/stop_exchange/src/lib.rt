@@ -15,7 +15,7 @@ use exchanged_stops::routes::{Position, Routes};
 pub mod check;
 
 // Of the crates below, passed on to those above.
-pub use exchanged_stops::{copy_part, routes};
+pub use exchanged_stops::routes;
 pub use perturbation::draws::{Draws, other_than};
 pub use perturbation::{Demand, Instance, Sought, Vehicle, eject, feasible, within_capacity};
 

@@ -10,7 +10,7 @@ use Rattle.std.specs.Float.Ieee.{le}
 use Rattle.reinsertion.specs.floats.Binary64.{◌⊕◌}
 use Rattle.reinsertion.specs.laws.Loops.{loop_rule, cond_rule, foldl}
 use Rattle.reinsertion.specs.laws.All.{All}
-use Rattle.reinsertion.specs.models.Problem.{Problem, Admitted, Stops}
+use Rattle.reinsertion.specs.models.Problem.{Problem, Stops}
 use Rattle.reinsertion.specs.plan.Plan.{Plan, route, total, HasPosition, put_in}
 use Rattle.reinsertion.specs.plan.Given.{plan_of}
 use Rattle.reinsertion.specs.plan.declared.routes.Routes.{Routes}
@@ -52,7 +52,6 @@ module _ (p : Problem) (saved : Float) where
 
 -- what the code asks while stops are left to be moved: there is room for each of them
 pub record Waiting (p : Problem) (lent : Routes) (left : List ℕ) : Type 0 where
-  pub admitted : Admitted p
   pub routes : All (Stops p.roads.size) (plan_of lent)
   pub few : total lent.lengths.now + length left ≤ 256
   pub free : total lent.lengths.now + length left ≤ length lent.stops.now

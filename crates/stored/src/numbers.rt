@@ -42,11 +42,9 @@ fn value_of(token: &[u8]) -> Option<u64> {
     if token.is_empty() {
         return None;
     }
-    let mut value = 0;
-    for byte in token {
-        value = with_digit(value, *byte)?;
-    }
-    Some(value)
+    token
+        .iter()
+        .try_fold(0, |value, byte| with_digit(value, *byte))
 }
 
 impl<'a> Numbers<'a> {

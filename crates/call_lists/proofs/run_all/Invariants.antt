@@ -1,9 +1,11 @@
 -- What the loop of `run_all` keeps.
 use Rattle.recorded_call.specs.models.Lent.{of_problem}
-use Rattle.recorded_call.specs.call_words.Words.{buffers}
+use Rattle.recorded_call.specs.call_words.Lent.{of_buffers, Keeps}
 use Rattle.call_lists.proofs.RunLaws.{Running}
 use Rattle.call_lists.proofs.run_all.Given as goal
 
-abbrev pub invariant-loop-ran : goal.invariant-loop-ran
-invariant-loop-ran l = Running (of_problem l.problem) l.calls l.tapes (buffers l.initial.lengths l.initial.stops l.initial.work l.initial.cells l.initial.answers l.initial.history) l.count
-    (buffers l.lengths l.stops l.work l.cells l.answers l.history) l.from l.ran
+abbrev pub invariant-loop-i : goal.invariant-loop-i
+invariant-loop-i l = record {
+  kept : Keeps l.initial.b l.b;
+  running : Running (of_problem l.problem) l.words l.tapes (of_buffers l.initial.b) (of_buffers l.b) l.left l.i;
+}

@@ -4,20 +4,14 @@ use Rattle.planner.specs.laws.Picks.{via}
 use Rattle.call_words.proofs.FormLaws.{judging_laws}
 use Rattle.call_words.proofs.calls_pass.Goals as goal
 
-pub loop-i-init : goal.loop-i-init
-loop-i-init c = search judging_laws
-
-pub words_at-w-requires : goal.words_at-w-requires
-words_at-w-requires c = search judging_laws
-
 pub returns-then-not-call_passes : goal.returns-then-not-call_passes
 returns-then-not-call_passes c = search (judging_laws, via, not-true)
 
 pub returns-then-left-w : goal.returns-then-left-w
 returns-then-left-w c = search (judging_laws, via, not-false)
 
-pub loop-i-preserved : goal.loop-i-preserved
-loop-i-preserved c = search (judging_laws, via, not-false)
+pub loop-call-preserved : goal.loop-call-preserved
+loop-call-preserved c = search (judging_laws, via, not-false)
 
 pub returns : goal.returns
 returns c = search judging_laws

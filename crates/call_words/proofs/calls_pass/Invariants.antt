@@ -2,5 +2,5 @@
 use Rattle.call_words.proofs.FormLaws.{Judging}
 use Rattle.call_words.proofs.calls_pass.Given as goal
 
-abbrev pub invariant-loop-i : goal.invariant-loop-i
-invariant-loop-i l = Judging l.there l.calls l.count l.tapes l.left l.i
+abbrev pub invariant-loop-call : goal.invariant-loop-call
+invariant-loop-call l = Judging l.there l.calls l.tapes l.left l.call-index

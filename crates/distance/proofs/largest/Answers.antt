@@ -7,7 +7,7 @@ pub loop-at-init : goal.loop-at-init
 loop-at-init c = seen_none _
 
 pub loop-at-preserved : goal.loop-at-preserved
-loop-at-preserved c = seen_more _ _ _ _ c.in-Some.ensures.2 c.in-Some.ensures.1 c.larger-most.ensures
+loop-at-preserved c = seen_more _ _ _ _ c.in-Some.ensures.2 c.in-Some.ensures.1 c.in-Some.ensures.3
 
 pub returns : goal.returns
 returns c = seen_all _ _ _ c.in_default.ensures (le_refl _)

@@ -8,7 +8,7 @@ use Rattle.std.proofs.lemmas.Iterator.Search.{all_from_yields_List}
 use Rattle.ejection.specs.route_cost.Route.{insertion_cost}
 use Rattle.ejection.specs.Eject.{outranks}
 use Rattle.ejection_positions.specs.Pass.{none_outranks}
-use Rattle.ejection_positions.proofs.RangeLaws.{range_every}
+use Rattle.ejection.specs.laws.Searches.{range_every}
 use Rattle.ejection_positions.proofs.none_outranks.Goals as goal
 
 pub returns : goal.returns

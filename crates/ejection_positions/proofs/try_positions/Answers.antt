@@ -9,5 +9,6 @@ loop-pos-init c = loop_none _ _
 pub loop-pos-preserved : goal.loop-pos-preserved
 loop-pos-preserved c = loop_more _ _ _ _ _ c.loop-pos.invariant c.try_in_kept-found.ensures
 
-pub returns : goal.returns
-returns c = loop_end _ _ _ _ _ c.loop-pos.invariant (omega (arith, c.loop-pos.auto.pos-end))
+pub returns-2 : goal.returns-2
+returns-2 c =
+    loop_end _ _ _ _ _ (loop_more _ _ _ _ _ c.loop-pos.invariant c.try_in_kept-found.ensures) (omega (arith, c.loop-pos-test.true, c.loop-pos.auto.pos-end))

@@ -3,11 +3,8 @@ use borrow.Author.Rules.{rules}
 use Rattle.float_functions.proofs.Branches.{key_laws}
 use Rattle.float_functions.proofs.total_key.Goals as goal
 
-pub returns-then-x : goal.returns-then-x
-returns-then-x c = search key_laws
-
-pub float_to_bits-bits : goal.float_to_bits-bits
-float_to_bits-bits c = search (rules, key_laws)
+pub returns-then-is_nan : goal.returns-then-is_nan
+returns-then-is_nan c = search (rules, key_laws)
 
 pub returns-then-bits-lt9223372036854775808 : goal.returns-then-bits-lt9223372036854775808
 returns-then-bits-lt9223372036854775808 c = search key_laws

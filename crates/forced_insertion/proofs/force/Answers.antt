@@ -12,8 +12,8 @@ returns-in_default-clause-plan c = search (stuck, c.eject-found.ensures, c.in_de
 pub make_room-requires-clause-inside : goal.make_room-requires-clause-inside
 make_room-requires-clause-inside c = leaves_inside _ _ _ c.args.routes.now c.eject-found.ensures c.in-Some.is
 
-pub perturb-draws-requires-clause-planned : goal.perturb-draws-requires-clause-planned
-perturb-draws-requires-clause-planned c = room_planned _ _ _ _ c.eject-found.ensures c.in-Some.is c.make_room.ensures c.requires.place c.requires.planned
+pub perturb-requires-clause-planned : goal.perturb-requires-clause-planned
+perturb-requires-clause-planned c = room_planned _ _ _ _ c.eject-found.ensures c.in-Some.is c.make_room.ensures c.requires.place c.requires.planned
 
 pub returns-clause-plan : goal.returns-clause-plan
-returns-clause-plan c = forced _ _ _ _ c.eject-found.ensures c.in-Some.is c.make_room.ensures _ _ c.perturb-draws.ensures.plan c.perturb-draws.ensures.draws
+returns-clause-plan c = forced _ _ _ _ c.eject-found.ensures c.in-Some.is c.make_room.ensures _ _ c.perturb.ensures.plan c.perturb.ensures.draws

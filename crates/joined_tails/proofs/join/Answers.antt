@@ -1,36 +1,29 @@
 -- `join` meets its contract: what the check does not find alone.
-use borrow.Author.Rules.{rules}
-use mathlib.Core.Path.{◌∙◌}
-use Rattle.joined_tails.proofs.JoinLaws.{join_laws, joined_taken}
+use Rattle.std.proofs.Common.{rules, sym, length-take-le}
+use Rattle.stop_exchange.specs.plan.Slices.{position_route}
+use Rattle.joined_tails.proofs.JoinLaws.{front_fits, back_fits, joined_long, joined_stand}
 use Rattle.joined_tails.proofs.join.Goals as goal
 
-pub begins-p-requires : goal.begins-p-requires
-begins-p-requires c = search (rules, join_laws)
+pub route-requires : goal.route-requires
+route-requires c = search (rules, position_route)
 
-pub begins-requires : goal.begins-requires
-begins-requires c = search (rules, join_laws)
+pub route-requires-2 : goal.route-requires-2
+route-requires-2 c = search (rules, position_route)
 
-pub overflow_add-q : goal.overflow_add-q
-overflow_add-q c = search (rules, join_laws)
+pub split_at_mut-first-requires : goal.split_at_mut-first-requires
+split_at_mut-first-requires c = front_fits c.args.routes.now _ _ _ _ c.requires.other c.requires.first c.requires.second c.route.ensures c.route-2.ensures _ c.requires.has_room
 
-pub offset_bounds-routes-b : goal.offset_bounds-routes-b
-offset_bounds-routes-b c = search (rules, join_laws)
+pub slice_bounds-copy_from_slice-end : goal.slice_bounds-copy_from_slice-end
+slice_bounds-copy_from_slice-end c = back_fits c.args.routes.now _ _ _ _ c.requires.other c.requires.first c.requires.second c.route.ensures c.route-2.ensures _ _ c.requires.has_room c.split_at_mut-first.ensures.back_len
 
-pub bounds-routes-b : goal.bounds-routes-b
-bounds-routes-b c = search (rules, join_laws)
+pub slice_bounds-copy_from_slice-end-2 : goal.slice_bounds-copy_from_slice-end-2
+slice_bounds-copy_from_slice-end-2 c = sym (length-take-le _ _ (back_fits c.args.routes.now _ _ _ _ c.requires.other c.requires.first c.requires.second c.route.ensures c.route-2.ensures _ _ c.requires.has_room c.split_at_mut-first.ensures.back_len))
 
-pub overflow_sub-m : goal.overflow_sub-m
-overflow_sub-m c = search (rules, join_laws)
-
-pub copy_part-requires : goal.copy_part-requires
-copy_part-requires c = (search join_laws, search join_laws)
-
-pub copy_part-requires-2 : goal.copy_part-requires-2
-copy_part-requires-2 c = (search (rules, join_laws), search join_laws)
-
-pub overflow_add-result : goal.overflow_add-result
-overflow_add-result c = search join_laws
+pub copy_from_slice-requires-2 : goal.copy_from_slice-requires-2
+copy_from_slice-requires-2 c = length-take-le _ _ (back_fits c.args.routes.now _ _ _ _ c.requires.other c.requires.first c.requires.second c.route.ensures c.route-2.ensures _ _ c.requires.has_room c.split_at_mut-first.ensures.back_len)
 
 pub slice_bounds-result-end : goal.slice_bounds-result-end
-slice_bounds-result-end c =
-    joined_taken c.args.routes.now _ _ _ _ c.requires.other c.requires.first c.requires.second _ _ c.requires.has_room (c.copy_part-2.auto.dst ∙ c.copy_part.auto.dst)
+slice_bounds-result-end c = joined_long c.args.routes.now _ _ _ _ c.requires.other c.requires.first c.requires.second c.route.ensures c.route-2.ensures c.copy_from_slice.new.self c.copy_from_slice-2.new.self (search rules) (search rules) _
+
+pub returns : goal.returns
+returns c = joined_stand c.args.routes.now _ _ _ _ c.requires.other c.requires.first c.requires.second c.route.ensures c.route-2.ensures c.copy_from_slice.new.self c.copy_from_slice-2.new.self (search rules) (search rules) _

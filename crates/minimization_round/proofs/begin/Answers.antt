@@ -6,14 +6,14 @@ use Rattle.minimization.specs.LocalSearchNextLaws.{count_within, begun_lent, beg
 use Rattle.minimization_round.proofs.NextLaws.{begun_cost}
 use Rattle.minimization_round.proofs.begin.Goals as goal
 
-pub slice_bounds-plan_cost-end : goal.slice_bounds-plan_cost-end
-slice_bounds-plan_cost-end c = count_within _ _ _ c.drop_empty-count.ensures.rest c.drop_empty-count.ensures.count
+pub slice_bounds-routes-end : goal.slice_bounds-routes-end
+slice_bounds-routes-end c = count_within _ _ _ c.drop_empty-count.ensures.rest c.drop_empty-count.ensures.count
 
-pub slice_bounds-plan_cost-end-2 : goal.slice_bounds-plan_cost-end-2
-slice_bounds-plan_cost-end-2 c = sym (length-take-le _ _ (count_within _ _ _ c.drop_empty-count.ensures.rest c.drop_empty-count.ensures.count))
+pub slice_bounds-routes-end-2 : goal.slice_bounds-routes-end-2
+slice_bounds-routes-end-2 c = sym (length-take-le _ _ (count_within _ _ _ c.drop_empty-count.ensures.rest c.drop_empty-count.ensures.count))
 
-pub plan_cost-before-requires-clause-lent : goal.plan_cost-before-requires-clause-lent
-plan_cost-before-requires-clause-lent c = begun_lent _ _ _ c.drop_empty-count.ensures.rest c.drop_empty-count.ensures.count _ c.requires.lent
+pub invariant_of-routes : goal.invariant_of-routes
+invariant_of-routes c = record { lent = begun_lent _ _ _ c.drop_empty-count.ensures.rest c.drop_empty-count.ensures.count _ c.requires.lent }
 
 pub plan_cost-before-requires-clause-stops : goal.plan_cost-before-requires-clause-stops
 plan_cost-before-requires-clause-stops c =

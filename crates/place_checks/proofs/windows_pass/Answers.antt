@@ -4,7 +4,7 @@ use Rattle.std.proofs.Math.Nat.{sub-zero}
 use Rattle.std.proofs.lemmas.Iterator.{YieldsList-from_range}
 use Rattle.std.proofs.lemmas.Iterator.Search.{all_from_yields_List}
 use Rattle.problem_checks.specs.models.Valid.{window_ordered}
-use Rattle.place_checks.proofs.RangeLaws.{range_every}
+use Rattle.problem_checks.specs.laws.Searches.{range_every}
 use Rattle.place_checks.proofs.windows_pass.Goals as goal
 
 pub returns : goal.returns

@@ -8,7 +8,7 @@ loop-init c = perturbing_start _ _ _ _ _ c.requires.planned c.requires.has_room 
 
 pub loop-preserved : goal.loop-preserved
 loop-preserved c =
-    perturbing_more _ _ _ _ _ _ _ _ c.loop.invariant _ _ _ (omega (arith, c.loop-test.true)) c.one_move-next.ensures.plan c.one_move-next.ensures.draws c.one_move-next.auto.work
+    perturbing_more _ _ _ _ _ _ _ _ c.loop.invariant _ _ _ (omega (arith, c.loop-test.true)) c.one_move.ensures.plan c.one_move.ensures.tape c.one_move.ensures.draws c.one_move.auto.work
 
 pub returns-clause-plan : goal.returns-clause-plan
 returns-clause-plan c = perturbing_plan _ _ _ _ _ _ _ _ c.loop.invariant (omega (arith, c.loop-test.false))

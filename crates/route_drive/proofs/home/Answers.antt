@@ -4,10 +4,6 @@ use Rattle.std.proofs.lemmas.Grind.{common_steps}
 use Rattle.trial_route.specs.evaluation.Eval.{home}
 use Rattle.route_drive.proofs.home.Goals as goal
 
-pub returns-then-allow : goal.returns-then-allow
-unfolding home
-returns-then-allow c = grind (arith, common_steps)
-
 pub returns : goal.returns
 unfolding home
 returns c = grind (arith, common_steps)

@@ -8,7 +8,7 @@ use Rattle.route_minimization.proofs.minimize_routes.Goals as goal
 pub returns-then-given : goal.returns-then-given
 returns-then-given c =
     let none_yet : c.default.result ≡ uncounted = search rules in
-    rw none_yet (soft_answers _ _ _ _ _ c.args.given.now.fleet.soft_is c.requires.whole c.if-given.true)
+    rw none_yet (soft_answers _ _ _ _ _ c.args.given.now.instance.now.fleet.soft_is c.requires.whole c.if-given.true)
 
 pub returns : goal.returns
-returns c = search_answers _ _ _ _ _ c.args.given.now.fleet.soft_is _ _ _ _ _ c.if-given.false c.search.ensures
+returns c = search_answers _ _ _ _ _ c.args.given.now.instance.now.fleet.soft_is _ _ _ _ _ c.if-given.false c.search.ensures

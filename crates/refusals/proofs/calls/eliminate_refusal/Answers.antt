@@ -9,7 +9,7 @@ returns-in_err-problem_rows c = search (rules, eliminate_laws)
 
 pub returns-in_err-plan_rows : goal.returns-in_err-plan_rows
 returns-in_err-plan_rows c = let p = err_from_is_err_and c.from_residual-in_err-plan_rows.result c.from_residual-in_err-plan_rows.ensures.1 in
-    rw (p.1, p.2) (eliminate_plan _ _ _ c.in_ok-problem_rows.ensures _ (rw c.size.ensures at c.in_err-plan_rows.ensures))
+    rw (p.1, p.2) (eliminate_plan _ _ _ c.in_ok-problem_rows.ensures _ c.in_err-plan_rows.ensures)
 
 pub returns : goal.returns
 returns c = search (rules, eliminate_laws)

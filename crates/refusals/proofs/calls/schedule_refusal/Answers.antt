@@ -7,4 +7,4 @@ pub returns-in_err-problem_rows : goal.returns-in_err-problem_rows
 returns-in_err-problem_rows c = let p = err_from_is_err_and c.from_residual.result c.from_residual.ensures.1 in rw (p.1, p.2) (schedule_first _ _ _ _ c.break_passes-beside.ensures _ c.in_err-problem_rows.ensures)
 
 pub returns : goal.returns
-returns c = schedule_next _ _ _ _ c.break_passes-beside.ensures _ c.in_ok-problem_rows.ensures (rw c.size.ensures at c.route_rows.ensures)
+returns c = schedule_next _ _ _ _ c.break_passes-beside.ensures _ c.in_ok-problem_rows.ensures c.route_rows.ensures
