@@ -3,6 +3,7 @@
 #![tactic(auto)]
 
 ghost use Rattle.std.specs.Prelude.{◌≡◌, [], length};
+ghost use Rattle.c_evaluations.specs.planner.Calls.{answered};
 ghost use Rattle.c_evaluations.specs.planner.Told.{told};
 ghost use Rattle.c_evaluations.specs.c_values.Said.{values, says, put, checked_values, number_values, window_values, reduction_values};
 
@@ -39,16 +40,17 @@ pub fn put_number(out: &mut [f64], a: Result<f64, Refusal>) -> u8
     }
 }
 
-// A window.
-pub fn put_window(out: &mut [f64], found: &mut [u64], w: Option<TimeWindow>)
+// A window, which is never refused.
+pub fn put_window(out: &mut [f64], found: &mut [u64], w: Option<TimeWindow>) -> u8
     requires { (length out.old ≡ 2) × (length found.old ≡ 1) }
-    ensures { values out.new found.new ≡ window_values w }
+    ensures { says result out.new found.new ≡ put window_values (values out.old found.old) (answered w) }
 {
     match w {
         Some(tw) => out.copy_from_slice(&[tw.ready, tw.due]),
         None => out.fill(0.0),
     }
     found[0] = u64::from(w.is_some());
+    0
 }
 
 // What a call that changes a plan did: routes left, steps, draws.

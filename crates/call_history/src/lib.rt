@@ -5,7 +5,7 @@ ghost use Rattle.std.specs.Prelude.{◌≡◌, ◌++◌, ◌+◌, ◌*◌, ◌�
 ghost use Rattle.call_words.specs.planner.Told.{told};
 ghost use Rattle.call_words.specs.Words.{answer_words, put};
 
-use call_words::{Reduction, Refusal};
+use call_words::{Reduction, Refusal, copy_cells};
 
 // Of the crates below, passed on to those above.
 pub use call_words::{Buffers, Problem, Vehicle, Words, well_formed};
@@ -29,6 +29,6 @@ pub fn record_slices(history: &mut [u16], i: usize, lengths: &[u16], stops: &[u1
 {
     let at = i * (lengths.len() + stops.len());
     let behind = at + lengths.len();
-    history[at..behind].copy_from_slice(lengths);
-    history[behind..behind + stops.len()].copy_from_slice(stops);
+    copy_cells(&mut history[at..behind], lengths);
+    copy_cells(&mut history[behind..behind + stops.len()], stops);
 }

@@ -8,14 +8,25 @@ ghost use Rattle.recorded_call.specs.call_words.Words.{well_formed};
 ghost use Rattle.recorded_call.specs.call_words.Lent.{of_buffers, Keeps};
 ghost use Rattle.call_lists.specs.Lists.{AllRun, Leaves};
 
-use recorded_call::{Problem, Words, run_next, well_formed};
+use recorded_call::{Words, run_next, well_formed};
 
 // Of the crates below, passed on to those above.
-pub use recorded_call::{Allowance, Buffers, eliminate, minimise};
+pub use recorded_call::{
+    Allowance, Buffers, Customers, DistanceMatrix, Problem, eliminate, minimise,
+};
 
 // The words of a list are malformed.
 #[derive(Clone, Copy, Debug, PartialEq, Eq)]
 pub struct Malformed;
+
+// Whether the words are calls, and the numbers that they name fit the buffers.
+fn fits(b: &Buffers, calls: &[u64], tapes: &[u64]) -> bool
+    ensures { result ≡ well_formed calls.now tapes.now (of_buffers b.now) }
+{
+    well_formed(
+        b.lengths, b.stops, b.work, b.cells, b.answers, b.history, calls, tapes,
+    )
+}
 
 // Every call in turn, each on both slices as the last one left them; how many there were.
 fn run_all(b: &mut Buffers, calls: &[u64], tapes: &[u64], problem: &Problem) -> usize
@@ -44,7 +55,7 @@ pub fn run_calls(
     ensures leaves { Leaves result (of_problem problem.now) calls.now tapes.now (of_buffers b.old) (of_buffers b.new) }
     ensures kept { Keeps b.old b.new }
 {
-    if !well_formed(b, calls, tapes) {
+    if !fits(b, calls, tapes) {
         return Err(Malformed);
     }
     Ok(run_all(b, calls, tapes, problem))

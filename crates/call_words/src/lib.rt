@@ -3,11 +3,10 @@
 #![tactic(auto)]
 
 ghost use Rattle.std.specs.Prelude.{◌≡◌, ◌*◌, map, eqb};
-ghost use Rattle.call_words.specs.Words.{words_first, asks, kind_passes, call_passes, calls_pass, well_formed};
-ghost use Rattle.call_words.specs.Lent.{of_buffers};
+ghost use Rattle.call_words.specs.Words.{buffers, words_first, asks, kind_passes, call_passes, calls_pass, well_formed};
 
 // Of the crates below, passed on to those above.
-pub use planner::{Problem, Reduction, Refusal, Vehicle, Work, copy_part};
+pub use planner::{Problem, Reduction, Refusal, Vehicle, Work, copy_cells, copy_part};
 
 // What a call of a list asks for.
 #[derive(Clone, Copy, PartialEq, Eq)]
@@ -114,13 +113,22 @@ fn is_product(whole: usize, count: usize, part: usize) -> bool
 
 // Whether the words are calls, and the numbers that they name fit what is lent.
 #[tactic(auto, unfolding(crate::specs::Words::well_formed))]
-pub fn well_formed(b: &Buffers, calls: &[u64], tapes: &[u64]) -> bool
-    ensures { result ≡ well_formed calls.now tapes.now (of_buffers b.now) }
+pub fn well_formed(
+    lengths: &[u16],
+    stops: &[u16],
+    work: &[u16],
+    cells: &[f64],
+    answers: &[u64],
+    history: &[u16],
+    calls: &[u64],
+    tapes: &[u64],
+) -> bool
+    ensures { result ≡ well_formed calls.now tapes.now (buffers lengths.now stops.now work.now cells.now answers.now history.now) }
 {
     let (words, rest) = calls.as_chunks::<6>();
     let count = words.len();
     rest.is_empty()
-        && b.answers.len() == count * 4
-        && is_product(b.history.len(), count, b.lengths.len() + b.stops.len())
-        && calls_pass(words, tapes.len(), Work::of(b.work, b.cells))
+        && answers.len() == count * 4
+        && is_product(history.len(), count, lengths.len() + stops.len())
+        && calls_pass(words, tapes.len(), Work::of(work, cells))
 }

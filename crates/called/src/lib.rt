@@ -15,7 +15,7 @@ use minimise_call::{Reduction, Refusal};
 
 // Of the crates below, passed on to those above.
 pub use eliminate_call::eliminate;
-pub use minimise_call::{Allowance, Problem, minimise};
+pub use minimise_call::{Allowance, Customers, DistanceMatrix, Problem, minimise};
 
 // A call that changes a plan: minimise with what it may use, or eliminate.
 #[derive(Clone, Copy)]
@@ -56,7 +56,7 @@ fn change_asked(w: Words, tape: &[u64]) -> Change
     }
 }
 
-// The call that the words are, with its tape.
+// The call that the words are, its tape the first of these words.
 pub fn run_call(
     lengths: &mut [u16],
     stops: &mut [u16],
@@ -70,7 +70,7 @@ pub fn run_call(
     ensures { reply_of result lengths.new stops.new ≡ call (of_problem problem.now) (slices_of lengths.old stops.old)
         (call_of w tape.now) }
 {
-    let change = change_asked(w, tape);
+    let change = change_asked(w, &tape[..w.tape]);
     let there = w.work;
     changed(
         change,

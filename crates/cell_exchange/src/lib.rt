@@ -5,7 +5,7 @@ ghost use Rattle.std.specs.Prelude.{◌≡◌, ◌-◌, ◌≤◌, ◌<◌, leng
 ghost use Rattle.cell_shifts.specs.laws.Exchanges.{swap, swap_parts};
 
 // Of the crates below, passed on to those above.
-pub use cell_shifts::{clear, copy_part, cut, insert_at};
+pub use cell_shifts::{clear, copy_cells, copy_part, cut, insert_at};
 
 // The cells at i and j are exchanged.
 pub fn swap(stops: &mut [u16], i: usize, j: usize)

@@ -1,3 +1,3 @@
 -- Laws that this crate's proofs cite.
--- the cells after a rotation and a store, and after a copy within them
+-- a tail that is shifted, and the cells after a copy within them
 pub mod ShiftLaws

@@ -4,11 +4,11 @@
 ghost use Rattle.std.specs.Prelude.{◌≡◌, ◌<◌};
 ghost use Rattle.route_insertion.specs.laws.All.{All};
 ghost use Rattle.route_insertion.specs.models.Problem.{Stops};
-ghost use Rattle.route_insertion.specs.plan.Given.{plan_of};
+ghost use Rattle.route_insertion.specs.plan.Given.{routes_left};
 ghost use Rattle.route_insertion.specs.insertion.Cheapest.{cheapest};
 ghost use Rattle.route_insertion.specs.evaluation.Given.{of_instance};
 
-use route_insertion::routes::Routes;
+use route_insertion::routes::EachRoute;
 use route_insertion::{Insertion, try_route};
 
 // Of the crates below, passed on to those above.
@@ -16,13 +16,18 @@ pub use route_insertion::{Counts, Demand, Instance, Times, Vehicle, routes};
 
 // The cheapest feasible insertion of c into a plan, over its routes and then their positions: the first found among equals. The work cells
 // may hold anything.
-pub fn cheapest(times: &mut Times, routes: &Routes, c: usize, given: &Instance) -> Option<Insertion>
-    requires stops { All (Stops given.now.fleet.net.roads.size) (plan_of routes.now) }
+pub fn cheapest(
+    times: &mut Times,
+    routes: EachRoute,
+    c: usize,
+    given: &Instance,
+) -> Option<Insertion>
+    requires stops { All (Stops given.now.fleet.net.roads.size) (routes_left routes) }
     requires there { c < given.now.fleet.net.roads.size }
-    ensures { result ≡ cheapest (of_instance given.now) (plan_of routes.now) c }
+    ensures { result ≡ cheapest (of_instance given.now) (routes_left routes.entry) c }
 {
     let mut best = None;
-    for (k, route) in routes.each().enumerate() {
+    for (k, route) in routes.enumerate() {
         best = try_route(times, route, c, k, best, given);
     }
     best

@@ -492,6 +492,5 @@ pub extern "C" fn cobrwydd_time_window_new(
         return fault.code();
     }
     let window = problem_questions::time_window_new(ready, due);
-    put_window(out, found, window);
-    0
+    put_window(out, found, window)
 }

@@ -1,7 +1,7 @@
 // The ejection (local_search/route_minimization.rs, `Pool::eject`): one stop leaves a route, or two, so that another can go in.
 #![tactic(auto)]
 
-ghost use Rattle.std.specs.Prelude.{◌≡◌, ◌≤◌, ◌<◌, length};
+ghost use Rattle.std.specs.Prelude.{◌≡◌, ◌≤◌, ◌<◌, length, take};
 ghost use Rattle.insertion.specs.models.Problem.{Stops};
 ghost use Rattle.ejection.specs.Eject.{kept, failures_at, failure_sum, fails_more, outranks};
 ghost use Rattle.ejection.specs.Asked.{Counted};
@@ -9,8 +9,8 @@ ghost use Rattle.ejection.specs.Asked.{Counted};
 // Of the crates below, passed on to those above.
 pub use insertion::{
     Counts, Demand, DistanceMatrix, Fleet, Instance, LocalSearchNext, Pick, Reduction, Times,
-    Vehicle, checked, constrained, copy_part, feasible, has_room, insertion_cost, may_pass,
-    pick_after, rounds, routes, within_capacity,
+    Vehicle, checked, constrained, copy_cells, copy_part, feasible, has_room, insertion_cost,
+    may_pass, pick_after, rounds, routes, within_capacity,
 };
 
 // Who leaves a route and where the popped stop goes: the sum of their failures, what the insertion costs, the route, the two places in it
@@ -75,16 +75,29 @@ pub fn failure_sum(failures: &[u32], route: &[u16], i: usize, j: usize) -> u32
     a + b
 }
 
-// The route without the stops at i and j goes to the first work cells. Returns these cells.
-pub fn keep<'a>(work: &'a mut [u16], route: &[u16], i: usize, j: usize) -> &'a [u16]
+// The route without the stops at i and j goes to the first work cells. Returns how many they are.
+#[tactic(auto, using(crate::specs::Asked::kept_length))]
+pub fn keep(work: &mut [u16], route: &[u16], i: usize, j: usize) -> usize
     requires places { (i ≤ j) × (j < length route.now) }
     requires room { length route.now ≤ length work.old }
-    ensures { result.now ≡ kept i j route.now }
+    ensures cells { take result work.new ≡ kept i j route.now }
+    ensures number { result ≡ length (kept i j route.now) }
 {
     let between = j.saturating_sub(i + 1);
     let rest = route.len() - (j + 1);
     insertion::copy_part(work, 0, route, 0, i);
     insertion::copy_part(work, i, route, i + 1, between);
     insertion::copy_part(work, i + between, route, j + 1, rest);
-    &work[..i + between + rest]
+    i + between + rest
+}
+
+// The same. Returns these cells.
+#[tactic(auto, using(crate::specs::Asked::kept_length))]
+pub fn keep_part<'a>(work: &'a mut [u16], route: &[u16], i: usize, j: usize) -> &'a [u16]
+    requires places { (i ≤ j) × (j < length route.now) }
+    requires room { length route.now ≤ length work.old }
+    ensures { result.now ≡ kept i j route.now }
+{
+    let number = keep(work, route, i, j);
+    &work[..number]
 }

@@ -1,6 +1,8 @@
 -- The ejection made.
 -- on the plan and on the pool
 pub mod Made
+-- and the pool as it lies in cells
+pub mod Cells
 -- crates below, passed on to those above
 pub use Rattle.ejection.specs.laws as laws
 pub use Rattle.ejection.specs.models as models

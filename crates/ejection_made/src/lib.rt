@@ -7,15 +7,15 @@ ghost use Rattle.ejection.specs.plan.Given.{plan_of, Becomes};
 ghost use Rattle.ejection.specs.Ejected.{Inside};
 ghost use Rattle.ejection_made.specs.Made.{Made};
 
-use arrayvec::ArrayVec;
 use ejection::routes::Routes;
 
 // Of the crates below, passed on to those above.
+pub use arrayvec::ArrayVec;
 pub use ejection::{
     Counts, Ejection, Instance, LocalSearchNext, Pick, Reduction, pick_after, rounds, routes,
 };
 
-// The stops that wait for a place, the one on top last.
+// The stops that wait for a place, the one on top last, as the attempts hold them.
 pub type Pool = ArrayVec<u16, 256>;
 
 // The stop at i leaves route k, and c goes in at pos of what is left. Returns the stop that left.
@@ -31,10 +31,15 @@ fn replace(routes: &mut Routes, k: usize, i: usize, pos: usize, c: u16) -> u16
 }
 
 // One stop leaves.
-pub fn make_one(routes: &mut Routes, pool: &mut Pool, e: Ejection, c: u16)
+pub fn make_one<const N: usize>(
+    routes: &mut Routes,
+    pool: &mut ArrayVec<u16, N>,
+    e: Ejection,
+    c: u16,
+)
     requires inside { Inside (plan_of routes.old) e }
     requires one { e.first ≡ e.second }
-    requires has_room { length pool.old.items < 256 }
+    requires has_room { length pool.old.items < N }
     ensures { Made routes.old pool.old c e routes.new pool.new }
 {
     let x = replace(routes, e.route, e.first, e.pos, c);
@@ -42,10 +47,15 @@ pub fn make_one(routes: &mut Routes, pool: &mut Pool, e: Ejection, c: u16)
 }
 
 // Two stops leave, and the later of them is on top of the pool.
-pub fn make_two(routes: &mut Routes, pool: &mut Pool, e: Ejection, c: u16)
+pub fn make_two<const N: usize>(
+    routes: &mut Routes,
+    pool: &mut ArrayVec<u16, N>,
+    e: Ejection,
+    c: u16,
+)
     requires inside { Inside (plan_of routes.old) e }
     requires two { e.first < e.second }
-    requires has_room { length pool.old.items + 1 < 256 }
+    requires has_room { length pool.old.items + 1 < N }
     ensures { Made routes.old pool.old c e routes.new pool.new }
 {
     let y = routes.take_out(e.route, e.second);

@@ -14,7 +14,7 @@ use ejection::{has_room, insertion_cost, may_pass, outranks};
 // Of the crates below, passed on to those above.
 pub use ejection::{
     Demand, Ejection, Fleet, Instance, Sought, Times, Vehicle, checked, fails_more, failure_sum,
-    feasible, keep, routes, within_capacity,
+    feasible, keep, keep_part, routes, within_capacity,
 };
 
 // Who leaves: the sum of their failures, the route and their two places in it, the same one twice where one stop leaves.
@@ -44,7 +44,9 @@ fn try_in_kept(
         (held (length left.now) times.now) pos best }
 {
     let cost = insertion_cost(left, pos, c, fleet.vehicle.depot_id, &fleet.net.roads);
-    if outranks(out.failed, cost, best) && may_pass(left, times, pos, c, fleet) {
+    if outranks(out.failed, cost, best)
+        && may_pass(left, times.departures, times.latest, pos, c, fleet)
+    {
         Some(Ejection {
             failed: out.failed,
             cost,

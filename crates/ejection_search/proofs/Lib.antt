@@ -1,3 +1,3 @@
 -- What the functions' proofs lean on.
--- one stop, or only then two
+-- a route's length; one stop, or only then two
 pub mod SearchLaws

@@ -5,12 +5,13 @@
 ghost use Rattle.std.specs.Prelude.{◌≡◌, ◌≤◌, length};
 ghost use Rattle.route_ejection.specs.laws.All.{All};
 ghost use Rattle.route_ejection.specs.models.Problem.{Stops};
-ghost use Rattle.route_ejection.specs.plan.Given.{plan_of};
+ghost use Rattle.route_ejection.specs.plan.Plan.{total};
+ghost use Rattle.route_ejection.specs.plan.Given.{routes_left};
 ghost use Rattle.route_ejection.specs.ejection.Eject.{eject};
 ghost use Rattle.ejection_search.specs.Some.{try_some, eject_some};
 ghost use Rattle.route_ejection.specs.evaluation.Given.{of_instance};
 
-use route_ejection::routes::Routes;
+use route_ejection::routes::EachRoute;
 use route_ejection::{Ejection, try_one, try_two};
 
 // Of the crates below, passed on to those above.
@@ -45,15 +46,15 @@ fn eject_some(
     work: &mut [u16],
     times: &mut Times,
     sought: &Sought,
-    routes: &Routes,
+    routes: EachRoute,
     two: bool,
 ) -> Option<Ejection>
-    requires stops { All (Stops sought.now.given.now.fleet.net.roads.size) (plan_of routes.now) }
-    requires room { length routes.now.stops.now ≤ length work.old }
-    ensures { result ≡ eject_some two (of_instance sought.now.given.now) (plan_of routes.now) sought.now.c sought.now.failures.now }
+    requires stops { All (Stops sought.now.given.now.fleet.net.roads.size) (routes_left routes) }
+    requires room { total routes.lengths.now ≤ length work.old }
+    ensures { result ≡ eject_some two (of_instance sought.now.given.now) (routes_left routes.entry) sought.now.c sought.now.failures.now }
 {
     let mut best = None;
-    for (k, route) in routes.each().enumerate() {
+    for (k, route) in routes.enumerate() {
         best = try_some(work, times, sought, route, k, two, best);
     }
     best
@@ -64,11 +65,11 @@ pub fn eject(
     work: &mut [u16],
     times: &mut Times,
     sought: &Sought,
-    routes: &Routes,
+    routes: EachRoute,
 ) -> Option<Ejection>
-    requires stops { All (Stops sought.now.given.now.fleet.net.roads.size) (plan_of routes.now) }
-    requires room { length routes.now.stops.now ≤ length work.old }
-    ensures { result ≡ eject (of_instance sought.now.given.now) (plan_of routes.now) sought.now.c sought.now.failures.now }
+    requires stops { All (Stops sought.now.given.now.fleet.net.roads.size) (routes_left routes) }
+    requires room { total routes.lengths.now ≤ length work.old }
+    ensures { result ≡ eject (of_instance sought.now.given.now) (routes_left routes.entry) sought.now.c sought.now.failures.now }
 {
     let one = eject_some(work, times, sought, routes, false);
     one.or_else(|| eject_some(work, times, sought, routes, true))

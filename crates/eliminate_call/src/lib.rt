@@ -13,6 +13,7 @@ use route_elimination::eliminate_routes;
 
 // Of the crates below, passed on to those above.
 pub use planner::{Reduction, Refusal};
+pub use refusals::{Customers, DistanceMatrix};
 pub use route_elimination::{Counts, Problem, Vehicle};
 
 // Fewer routes where the others take a route's stops for less than it costs. The f64 work cells are counted and not touched.

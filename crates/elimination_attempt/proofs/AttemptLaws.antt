@@ -16,14 +16,17 @@ use Rattle.route_saving.specs.emptied_route.Attempts.{emptied, Accepted, Left}
 
 -- ---- the answer: what is saved is not finite; or the attempt is made
 
-module _ (p : Problem) (routes : Plan) (r : ℕ) (x : Float) (ex : x ≡ worth p (route r routes) ⊕ fixed_cost_in_distance p.vehicle) (v : Bool) (ev : v ≡ is_finite x) where
+module _ (p : Problem) {routes each : Plan} (r : ℕ) (same : each ≡ routes) (x : Float) (ex : x ≡ worth p (route r each) ⊕ fixed_cost_in_distance p.vehicle) (v : Bool) (ev : v ≡ is_finite x) where
+  here : x ≡ worth p (route r routes) ⊕ fixed_cost_in_distance p.vehicle
+  here = rw same at ex
+
   pub without_endless : v ≡ false → (y : Plan) → then_some false y ≡ without_route p routes r
   unfolding without_route then_some
-  without_endless f y = rw (← ex, ← ev, f)
+  without_endless f y = rw (← here, ← ev, f)
 
   pub without_tried : v ≡ true → (b : Bool) (y : Plan) → then_some b y ≡ emptied p x routes r → then_some b y ≡ without_route p routes r
   unfolding without_route
-  without_tried h b y e = rw (← ex, ← ev, h) e
+  without_tried h b y e = rw (← here, ← ev, h) e
 
 -- the plan of a refused attempt is any
 module _ (b : Bool) (y : Plan) (o : Option Plan) (e : then_some b y ≡ o) where

@@ -54,7 +54,7 @@ pub fn without_route(routes: &mut Routes, work: &mut [u16], r: usize, given: &El
     ensures slices { Left result routes.old routes.new }
     ensures kept { Keeps routes.old routes.new }
 {
-    let saved = saved_by(routes, r, given.instance);
+    let saved = saved_by(routes.each(), r, given.instance);
     if is_finite(saved) {
         return try_without(routes, work, r, saved, given);
     }

@@ -17,8 +17,8 @@ pub mod elimination;
 
 pub use elimination::Elimination;
 use moved_stops::move_all;
-use route_removal::erase_route;
 use route_removal::routes::Routes;
+use route_removal::{copy_cells, erase_route};
 
 // Of the crates below, passed on to those above.
 pub use moved_stops::{
@@ -35,7 +35,7 @@ fn keep_route<'a>(cells: &'a mut [u16], routes: &Routes, r: usize) -> &'a mut [u
 {
     let route = routes.route(r);
     let left = &mut cells[..route.len()];
-    left.copy_from_slice(route);
+    copy_cells(left, route);
     left
 }
 

@@ -8,7 +8,7 @@ ghost use Rattle.plan.specs.Given.{plan_of, Becomes};
 use plan::routes::{Position, Routes};
 
 // Of the crates below, passed on to those above.
-pub use plan::{clear, copy_part, cut, routes, swap_parts};
+pub use plan::{clear, copy_cells, copy_part, cut, offset, routes, swap_parts};
 
 // The stop at one position and the stop at another one, of another route, are exchanged.
 pub fn exchange_stops(routes: &mut Routes, a: Position, b: Position)

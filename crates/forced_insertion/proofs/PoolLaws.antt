@@ -11,7 +11,8 @@ use Rattle.cheapest_insertion.specs.laws.All.{all_of}
 use Rattle.cheapest_insertion.specs.laws.Counts.{count, one_if}
 use Rattle.cheapest_insertion.specs.models.Problem.{Problem}
 use Rattle.cheapest_insertion.specs.plan.Plan.{Plan, HasPosition, flat, total, occurs}
-use Rattle.cheapest_insertion.specs.plan.Given.{plan_of, Becomes}
+use Rattle.cheapest_insertion.specs.plan.Given.{plan_of, routes_left, Becomes}
+use Rattle.cheapest_insertion.specs.plan.declared.each.EachRoute.{EachRoute}
 use Rattle.cheapest_insertion.specs.plan.declared.routes.Routes.{Routes}
 use Rattle.cheapest_insertion.specs.plan.Slices.{total_lengths, lengths_split}
 use Rattle.cheapest_insertion.specs.route_cost.declared.Insertion.{Insertion}
@@ -50,6 +51,11 @@ Any r = Unit
 -- a plan in two lent slices has as many stops as they say
 pub held_number : (r : Routes) → total r.lengths.now ≡ length (flat (plan_of r))
 held_number r = ap total (sym (lengths_split r.lengths.now r.stops.now r.lent.inside)) ∙ total_lengths (plan_of r)
+
+-- and so many as the routes that are read from them
+pub read_number : (w : EachRoute) (r : Routes) → routes_left w ≡ plan_of r → total w.lengths.now ≡ total r.lengths.now
+read_number w r e =
+    ap total (sym (lengths_split w.lengths.now w.stops.now w.lent.inside)) ∙ total_lengths (routes_left w) ∙ ap (λ (plan : Plan). length (flat plan)) e ∙ sym (held_number r)
 
 module _ (p : Problem) (c : ℕ) (failures : List ℕ) (old : Routes) {best : Option Ejection} (h : best ≡ eject p (plan_of old) c failures) {e : Ejection} (b : best ≡ Some e) where
   leaves : eject p (plan_of old) c failures ≡ Some e

@@ -31,7 +31,7 @@ pub fn place(routes: &mut Routes, times: &mut Times, c: u16, given: &Instance) -
     ensures plan { Becomes routes.old (put_best c (cheapest (of_instance given.now) (plan_of routes.old) c) (plan_of routes.old))
         (total routes.old.lengths.now + one_more result) routes.new }
 {
-    let Some(best) = cheapest(times, routes, c as usize, given) else {
+    let Some(best) = cheapest(times, routes.each(), c as usize, given) else {
         return false;
     };
     routes.put_in(best.route, best.pos, c);
@@ -61,7 +61,7 @@ pub fn force(
         failures,
         given: instance,
     };
-    let found = eject(work, times, &sought, routes);
+    let found = eject(work, times, &sought, routes.each());
     let steps = counts.steps + 1;
     let Some(e) = found else {
         return Err(Counts { steps, ..counts });

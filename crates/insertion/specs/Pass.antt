@@ -1,5 +1,5 @@
 -- The tests of a position, the load aside: the load test is made once for a route, before its positions. Assumes nothing.
-use Rattle.std.specs.Prelude.{ℕ, ◌≡◌, refl, Bool, true, false, cond, not, ◌&&◌, ◌||◌, List, []}
+use Rattle.std.specs.Prelude.{ℕ, ◌≡◌, refl, Bool, true, false, cond, not, ◌&&◌, ◌||◌, List, [], take, Float}
 use Rattle.std.proofs.Common.{ap}
 use Rattle.std.specs.Prelude.{Option, Some}
 use Rattle.route_times.specs.laws.Edits.{insert_at}
@@ -9,7 +9,17 @@ use Rattle.route_times.specs.route_cost.Route.{insertion_cost}
 use Rattle.route_times.specs.route_load.Feasible.{constrained, has_room, checked}
 use Rattle.route_times.specs.RouteLoadFeasibleLaws.{trial_within}
 use Rattle.route_times.specs.quick_test.Quick.{may_fit, Times}
+use Rattle.route_times.specs.declared.Times.{Times as Cells}
+use Rattle.route_times.specs.Prepared.{held}
 use Rattle.insertion.specs.Cheapest.{may_go_in, cheaper, try_position}
+
+-- the departures and the latest arrivals of a route of m stops: the first m of each list
+abbrev pub first_times : ℕ → List Float → List Float → Times
+first_times m departures latest = record { departures = take m departures; latest = take m latest }
+
+-- in work cells they are those that are held
+pub held_first : (m : ℕ) (cells : Cells) → held m cells ≡ first_times m cells.departures.now cells.latest.now
+held_first m cells = refl
 
 -- the quick test, where it is needed
 abbrev pub quick : Problem → List ℕ → Times → ℕ → ℕ → Bool

@@ -4,9 +4,8 @@
 
 ghost use Rattle.std.specs.Prelude.{◌≡◌, [], ◌<◌, ◌≤◌, length};
 ghost use Rattle.route_times.specs.models.Problem.{Stops};
-ghost use Rattle.route_times.specs.Prepared.{held};
 ghost use Rattle.insertion.specs.Cheapest.{cheaper};
-ghost use Rattle.insertion.specs.Pass.{may_pass, pass_position};
+ghost use Rattle.insertion.specs.Pass.{first_times, may_pass, pass_position};
 ghost use Rattle.route_times.specs.evaluation.Given.{of_fleet};
 
 use route_times::{may_fit, trial_ok};
@@ -14,26 +13,35 @@ use route_times::{may_fit, trial_ok};
 // Of the crates below, passed on to those above.
 pub use route_times::{
     Counts, Demand, DistanceMatrix, Fleet, Insertion, Instance, LocalSearchNext, Pick, Reduction,
-    Times, Vehicle, checked, constrained, copy_part, feasible, has_room, insertion_cost,
-    pick_after, rounds, routes, within_capacity,
+    Times, Vehicle, checked, constrained, copy_cells, copy_part, feasible, has_room,
+    insertion_cost, pick_after, rounds, routes, within_capacity,
 };
 
 // Whether c may go in at pos of a route that has room for it: the quick test and then the check of the trial route, where they are
-// needed. The times are those that `prepare` keeps.
+// needed. The times are those that `prepare` keeps: the first cells of the two are read, one for each stop.
 #[tactic(auto, unfolding(crate::specs::Pass::may_pass))]
-pub fn may_pass(route: &[u16], times: &Times, pos: usize, c: usize, fleet: &Fleet) -> bool
+pub fn may_pass(
+    route: &[u16],
+    departures: &[f64],
+    latest: &[f64],
+    pos: usize,
+    c: usize,
+    fleet: &Fleet,
+) -> bool
     requires there { c < fleet.now.net.roads.size }
     requires within { pos ≤ length route.now }
     requires stops { Stops fleet.now.net.roads.size route.now }
-    ensures { result ≡ may_pass (of_fleet fleet.now) route.now (held (length route.now) times.now) pos c }
+    requires departures_room { length route.now ≤ length departures.now }
+    requires latest_room { length route.now ≤ length latest.now }
+    ensures { result ≡ may_pass (of_fleet fleet.now) route.now (first_times (length route.now) departures.now latest.now) pos c }
 {
     if !fleet.needed {
         return true;
     }
     let fits = may_fit(
         route,
-        times.departures,
-        times.latest,
+        departures,
+        latest,
         pos,
         c,
         fleet.vehicle.depot_id,
@@ -53,7 +61,8 @@ fn cheaper(cost: f64, best: Option<Insertion>) -> bool
 #[tactic(auto, unfolding(crate::specs::Pass::pass_position))]
 pub fn try_position(
     route: &[u16],
-    times: &Times,
+    departures: &[f64],
+    latest: &[f64],
     pos: usize,
     c: usize,
     k: usize,
@@ -63,10 +72,12 @@ pub fn try_position(
     requires there { c < fleet.now.net.roads.size }
     requires within { pos ≤ length route.now }
     requires stops { Stops fleet.now.net.roads.size route.now }
-    ensures { result ≡ pass_position (of_fleet fleet.now) c k route.now (held (length route.now) times.now) pos best }
+    requires departures_room { length route.now ≤ length departures.now }
+    requires latest_room { length route.now ≤ length latest.now }
+    ensures { result ≡ pass_position (of_fleet fleet.now) c k route.now (first_times (length route.now) departures.now latest.now) pos best }
 {
     let cost = insertion_cost(route, pos, c, fleet.vehicle.depot_id, &fleet.net.roads);
-    if cheaper(cost, best) && may_pass(route, times, pos, c, fleet) {
+    if cheaper(cost, best) && may_pass(route, departures, latest, pos, c, fleet) {
         Some(Insertion {
             cost,
             route: k,

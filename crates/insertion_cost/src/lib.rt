@@ -13,8 +13,9 @@ pub use local_search::feasible::{checked, constrained, feasible, trial_ok};
 pub use local_search::rounds::{Counts, Next as LocalSearchNext, Reduction};
 pub use local_search::{
     Customer, Demand, DistanceMatrix, Fleet, Insertion, Instance, Network, Pick, TimeWindow,
-    Vehicle, abs, copy_part, customer_at, cut, has_room, infinity, insert_at, max, min, pick_after,
-    rounds, route_cost_gain_floor, route_cost_route_distance, routes, travel_time, within_capacity,
+    Vehicle, abs, copy_cells, copy_part, customer_at, cut, has_room, infinity, insert_at, max, min,
+    pick_after, rounds, route_cost_gain_floor, route_cost_route_distance, routes, travel_time,
+    within_capacity,
 };
 
 // The stop before position pos of a route, the depot before the first.

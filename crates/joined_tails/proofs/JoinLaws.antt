@@ -12,8 +12,8 @@ use lib.Seq.{take_all, take_at, length-take-le, get_or-set_other}
 use Rattle.stop_exchange.specs.laws.All.{all_get}
 use Rattle.stop_exchange.specs.models.Problem.{Problem, Stops}
 use Rattle.stop_exchange.specs.plan.Plan.{Plan, HasPosition, route, total, non_empty, exchange_tails}
-use Rattle.stop_exchange.specs.plan.Given.{plan_of}
-use Rattle.stop_exchange.specs.plan.declared.routes.Routes.{Routes}
+use Rattle.stop_exchange.specs.plan.Given.{routes_left}
+use Rattle.stop_exchange.specs.plan.declared.each.EachRoute.{EachRoute}
 use Rattle.stop_exchange.specs.plan.Slices.{length_route, route_within, total_set, position_route, position_within}
 use Rattle.stop_exchange.specs.PlanExchanges.{length_exchange_tails, occurs_exchange_tails, number_exchange_tails, first_exchange_tails}
 use Rattle.stop_exchange.specs.route_load.Feasible.{feasible}
@@ -22,7 +22,7 @@ use Rattle.stop_exchange.specs.perturbation.Parts.{joined, joined_stands}
 
 -- ---- a front and a tail, joined in the work cells
 
-module _ (r : Routes) (a i b j : ℕ) (d : a ≡ b → ⊥) (f : HasPosition (plan_of r) a i) (g : HasPosition (plan_of r) b j) where
+module _ (r : EachRoute) (a i b j : ℕ) (d : a ≡ b → ⊥) (f : HasPosition (routes_left r) a i) (g : HasPosition (routes_left r) b j) where
   abbrev ls : List ℕ
   ls = r.lengths.now
 
@@ -37,11 +37,11 @@ module _ (r : Routes) (a i b j : ℕ) (d : a ≡ b → ⊥) (f : HasPosition (pl
       let o : get_or (set ls a 0) b 0 ≡ get_or ls b 0 = get_or-set_other ls a b 0 0 (λ e. d (sym e)) in
       omega (arith, total_set ls a 0 h, route_within (set ls a 0) b (rw length-set k))
 
-  in_use : i + (get_or ls b 0 - j) ≤ length s
-  in_use = omega (arith, both_in_use, r.lent.inside, position_within ls s r.lent a i f)
+  in_use : i + (get_or ls b 0 - j) ≤ total ls
+  in_use = omega (arith, both_in_use, position_within ls s r.lent a i f)
 
   -- t and u: the two routes as they are lent
-  module _ {t u : List ℕ} (et : t ≡ route a (plan_of r)) (eu : u ≡ route b (plan_of r)) where
+  module _ {t u : List ℕ} (et : t ≡ route a (routes_left r)) (eu : u ≡ route b (routes_left r)) where
     front_there : i ≤ length t
     front_there = rw et f.within
 
@@ -54,16 +54,16 @@ module _ (r : Routes) (a i b j : ℕ) (d : a ≡ b → ⊥) (f : HasPosition (pl
     back_is : back ≡ drop j u
     back_is = take_all (length u - j) (drop j u) (simp length-drop (omega arith))
 
-    both_there : (w : List ℕ) → length s ≤ length w → length front + length back ≤ length w
+    both_there : (w : List ℕ) → total ls ≤ length w → length front + length back ≤ length w
     both_there w h =
         let n : length front ≡ i = length-take-le i t front_there in
         let m : length back ≡ get_or ls b 0 - j = rw (back_is, length-drop, eu, length_route ls s r.lent.inside b) in
         omega (arith, n, m, in_use)
 
-    pub front_fits : (w : List ℕ) → length s ≤ length w → length front ≤ length w
+    pub front_fits : (w : List ℕ) → total ls ≤ length w → length front ≤ length w
     front_fits w h = omega (arith, both_there w h)
 
-    pub back_fits : (w rest : List ℕ) → length s ≤ length w → length rest + length front ≡ length w → length back ≤ length rest
+    pub back_fits : (w rest : List ℕ) → total ls ≤ length w → length rest + length front ≡ length w → length back ≤ length rest
     back_fits w rest h e = omega (arith, both_there w h)
 
     -- what the first cells are then
@@ -76,7 +76,7 @@ module _ (r : Routes) (a i b j : ℕ) (d : a ≡ b → ⊥) (f : HasPosition (pl
       pub joined_long : length front + length back ≡ length (take (length front + length back) (x ++ (y ++ free)))
       joined_long = sym (ap length both_stand ∙ length-append front back)
 
-      pub joined_stand : take (length front + length back) (x ++ (y ++ free)) ≡ joined a i b j (plan_of r)
+      pub joined_stand : take (length front + length back) (x ++ (y ++ free)) ≡ joined a i b j (routes_left r)
       unfolding joined
       joined_stand = both_stand ∙ rw (back_is, et, eu) refl
 

@@ -12,7 +12,7 @@ use quick_fit::{TimeWindow, customer_at, min, travel_time};
 // Of the crates below, passed on to those above.
 pub use quick_fit::{
     Counts, Demand, DistanceMatrix, Fleet, Insertion, Instance, LocalSearchNext, Network, Pick,
-    Reduction, Vehicle, checked, constrained, copy_part, feasible, has_room, infinity,
+    Reduction, Vehicle, checked, constrained, copy_cells, copy_part, feasible, has_room, infinity,
     insertion_cost, leave, may_fit, pick_after, rounds, routes, trial_ok, within_capacity,
 };
 

@@ -8,7 +8,7 @@ ghost use Rattle.listing_numbers.specs.Put.{HasRoom, Puts};
 pub use listing_numbers::{Demand, Page, Problem, Vehicle, each, load, route_cost_route_distance};
 
 // Each stop behind a space.
-fn put_stops(page: &mut Page<'_>, stops: &[u16])
+pub fn put_stops(page: &mut Page<'_>, stops: &[u16])
     requires { HasRoom page.old (Listing·stops stops.now) }
     ensures { Puts page.old (Listing·stops stops.now) page.new }
 {

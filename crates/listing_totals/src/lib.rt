@@ -40,12 +40,20 @@ pub fn put_last_line(page: &mut Page<'_>, counts: Counts, given: u64, left: u64)
     put_line(page, b" left ", left);
 }
 
+// The line of a refusal.
+pub fn put_refusal(page: &mut Page<'_>, number: u64)
+    requires { HasRoom page.old (refusal_line number) }
+    ensures { Puts page.old (refusal_line number) page.new }
+{
+    put_line(page, b"refused ", number);
+}
+
 // The line of a refusal, from the start of a slice on: the position behind it.
-pub fn put_refusal(out: &mut [u8], refusal: Refusal) -> usize
+pub fn put_refused(out: &mut [u8], refusal: Refusal) -> usize
     requires { Room out.old 0 (refusal_line (number refusal)) }
     ensures { Written out.old 0 (refusal_line (number refusal)) out.new result }
 {
     let mut page = Page { out, at: 0 };
-    put_line(&mut page, b"refused ", refusal.number() as u64);
+    put_refusal(&mut page, refusal.number() as u64);
     page.at
 }

@@ -11,11 +11,11 @@ ghost use Rattle.listing_totals.specs.models.Lent.{of_problem};
 
 use listing_routes::each::EachRoute;
 use listing_routes::put_routes;
-use listing_totals::{Counts, Page, Problem, put_first_line, put_last_line};
+use listing_totals::{Counts, Problem, put_first_line, put_last_line};
 
 // Of the crates below, passed on to those above.
 pub use listing_routes::each;
-pub use listing_totals::{Refusal, put_refusal};
+pub use listing_totals::{Page, Refusal, put_refusal, put_refused};
 
 // The listing of the routes, from position 0 on.
 pub fn put_listing(

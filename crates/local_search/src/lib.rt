@@ -12,4 +12,4 @@ pub use route_load::{
     has_room, infinity, load, max, min, route_cost_gain_floor, route_cost_route_distance,
     travel_time, within_capacity,
 };
-pub use route_order::{Pick, copy_part, cut, each, insert_at, pick_after, routes};
+pub use route_order::{Pick, copy_cells, copy_part, cut, each, insert_at, pick_after, routes};

@@ -7,15 +7,20 @@ ghost use Rattle.ejection_made.specs.ejection.Ejected.{Inside};
 ghost use Rattle.ejection_made.specs.Made.{Made};
 
 use ejection_made::routes::Routes;
-use ejection_made::{Ejection, Pool, make_one, make_two};
+use ejection_made::{ArrayVec, Ejection, make_one, make_two};
 
 // Of the crates below, passed on to those above.
 pub use random_moves::{Draws, Sought, eject, perturb};
 
 // The ejection is made for c.
-pub fn make_room(routes: &mut Routes, pool: &mut Pool, e: Ejection, c: u16)
+pub fn make_room<const N: usize>(
+    routes: &mut Routes,
+    pool: &mut ArrayVec<u16, N>,
+    e: Ejection,
+    c: u16,
+)
     requires inside { Inside (plan_of routes.old) e }
-    requires has_room { length pool.old.items + 1 < 256 }
+    requires has_room { length pool.old.items + 1 < N }
     ensures { Made routes.old pool.old c e routes.new pool.new }
 {
     if e.first < e.second {

@@ -5,5 +5,5 @@
 // Of the crates below, passed on to those above.
 pub use pool_cost::{
     Allowance, Counts, Customers, DistanceMatrix, LocalSearchNext, Minimisation, Pick, Problem,
-    Reduction, Vehicle, copy_part, each, pick_after, plan_cost, rounds, routes,
+    Reduction, Vehicle, copy_cells, copy_part, each, pick_after, plan_cost, rounds, routes,
 };

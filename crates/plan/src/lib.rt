@@ -5,4 +5,5 @@ pub mod each;
 pub mod routes;
 
 // Of the crates below, passed on to those above.
-pub use cell_exchange::{clear, copy_part, cut, insert_at, swap, swap_parts};
+pub use cell_exchange::{clear, copy_cells, copy_part, cut, insert_at, swap, swap_parts};
+pub use routes::offset;

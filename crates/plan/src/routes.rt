@@ -2,7 +2,7 @@
 ghost use Rattle.std.specs.Prelude.{◌≡◌, ◌+◌, ◌-◌, ◌<◌, ◌≤◌, ◌^◌, length, slice_index};
 ghost use Rattle.plan.specs.Plan.{Lent, HasPosition, HasStop, route, total, offset, put_in, take_out};
 
-use crate::each::EachRoute;
+pub use crate::each::EachRoute;
 
 // The lengths of the routes and their stops, as they are lent.
 #[derive(Drop)]
@@ -27,6 +27,15 @@ pub fn total(lengths: &[u16]) -> usize
     lengths.iter().map(|length| *length as usize).sum()
 }
 
+// Where route k begins among the stops.
+pub fn offset(lengths: &[u16], k: usize) -> usize
+    requires there { k ≤ length lengths.now }
+    requires few { total lengths.now < 65536 }
+    ensures { result ≡ offset lengths.now k }
+{
+    total(&lengths[..k])
+}
+
 impl<'a> Routes<'a> {
     ghost use Rattle.plan.specs.Given.{plan_of, routes_left, Becomes};
 
@@ -38,12 +47,11 @@ impl<'a> Routes<'a> {
     }
 
     // Where route k begins among the stops.
-    #[tactic(auto, using(crate::proofs::PlanLaws::offset_fits))]
     pub fn begins(&self, k: usize) -> usize
         requires { k ≤ length self.now.lengths.now }
         ensures { result ≡ offset self.now.lengths.now k }
     {
-        total(&self.lengths[..k])
+        offset(self.lengths, k)
     }
 
     // The routes, one after the other.
@@ -61,9 +69,7 @@ impl<'a> Routes<'a> {
         requires { k < length self.now.lengths.now }
         ensures { result.now ≡ route k (plan_of self.now) }
     {
-        let at = self.begins(k);
-        let length = self.lengths[k] as usize;
-        &self.stops[at..at + length]
+        self.each().route(k)
     }
 
     // The stop c goes into route k at pos.

@@ -12,8 +12,8 @@ use route_cost::route_distance;
 
 // Of the crates below, passed on to those above.
 pub use route_cost::{
-    Customers, Demand, DistanceMatrix, Instance, Problem, Vehicle, abs, copy_part, each,
-    has_soft_windows,
+    Customers, Demand, DistanceMatrix, Instance, Problem, Vehicle, abs, copy_cells, copy_part,
+    each, has_soft_windows,
 };
 
 // The cost of a plan: the distance of each route and its fixed cost in distance, in route order.

@@ -7,4 +7,4 @@ pub use entry::{Refusal, Work, instance};
 pub use lateness_bound::{
     Problem, Vehicle, bound, route_worth_effective_cost, route_worth_route_eval,
 };
-pub use minimization::{Reduction, copy_part};
+pub use minimization::{Reduction, copy_cells, copy_part};

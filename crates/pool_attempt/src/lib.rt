@@ -37,7 +37,7 @@ fn try_routes(
 {
     let counts = empty_pool(routes, pool, work, times, counted, given)?;
     let fleet = &given.instance.fleet;
-    if is_cheaper(routes, before, fleet.vehicle, &fleet.net.roads) {
+    if is_cheaper(routes.each(), before, fleet.vehicle, &fleet.net.roads) {
         Ok(counts)
     } else {
         Err(counts)

@@ -12,9 +12,9 @@ use quick_test::{abs, max, prev_stop};
 // Of the crates below, passed on to those above.
 pub use quick_test::{
     Counts, Demand, DistanceMatrix, Fleet, Insertion, Instance, LocalSearchNext, Network, Pick,
-    Reduction, TimeWindow, Vehicle, checked, constrained, copy_part, customer_at, feasible,
-    has_room, infinity, insertion_cost, leave, min, pick_after, rounds, routes, travel_time,
-    trial_ok, within_capacity,
+    Reduction, TimeWindow, Vehicle, checked, constrained, copy_cells, copy_part, customer_at,
+    feasible, has_room, infinity, insertion_cost, leave, min, pick_after, rounds, routes,
+    travel_time, trial_ok, within_capacity,
 };
 
 // Whether an arrival is by a bound, with room for rounding. A bound of -infinity makes a NaN, and the answer is no.

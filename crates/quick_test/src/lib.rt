@@ -11,8 +11,8 @@ use insertion_cost::Customer;
 // Of the crates below, passed on to those above.
 pub use insertion_cost::{
     Counts, Demand, DistanceMatrix, Fleet, Insertion, Instance, LocalSearchNext, Network, Pick,
-    Reduction, TimeWindow, Vehicle, abs, checked, constrained, copy_part, customer_at, feasible,
-    has_room, infinity, insertion_cost, max, min, pick_after, prev_stop, rounds, routes,
+    Reduction, TimeWindow, Vehicle, abs, checked, constrained, copy_cells, copy_part, customer_at,
+    feasible, has_room, infinity, insertion_cost, max, min, pick_after, prev_stop, rounds, routes,
     travel_time, trial_ok, within_capacity,
 };
 

@@ -12,7 +12,7 @@ use called::run_call;
 
 // Of the crates below, passed on to those above.
 pub use call_history::{Buffers, Problem, Vehicle, Words, well_formed};
-pub use called::{Allowance, eliminate, minimise};
+pub use called::{Allowance, Customers, DistanceMatrix, eliminate, minimise};
 
 // Call i, as its words say, run with the first of the tapes and recorded. The answer is the tapes that are left.
 pub fn run_next<'a>(

@@ -5,14 +5,14 @@
 ghost use Rattle.std.specs.Prelude.{◌≡◌, suc, ◌<◌, ◌≤◌, length};
 ghost use Rattle.reinsertion_candidates.specs.laws.Loops.{loop};
 ghost use Rattle.reinsertion_candidates.specs.models.Problem.{Stops};
-ghost use Rattle.reinsertion_candidates.specs.plan.Given.{plan_of};
+ghost use Rattle.reinsertion_candidates.specs.plan.Given.{routes_left};
 ghost use Rattle.reinsertion_candidates.specs.reinsertion_worth.Worth.{current};
 ghost use Rattle.reinsertion_candidates.specs.Candidates.{candidates, by_cost, first_passing};
 ghost use Rattle.reinsertion_candidates.specs.Place.{look_at, look_through, look_over};
 ghost use Rattle.reinsertion_candidates.specs.Asked.{Asked, Looked, Room};
 ghost use Rattle.reinsertion_candidates.specs.evaluation.Given.{of_instance, of_fleet};
 
-use reinsertion_candidates::routes::Routes;
+use reinsertion_candidates::routes::EachRoute;
 use reinsertion_candidates::{
     Fleet, Insertion, current, has_room, insertion_worth, leads, settles,
 };
@@ -87,24 +87,24 @@ fn look_through(
 }
 
 // The first least of the candidates that end the search, over the routes of a plan and then their positions.
-fn look_over(routes: &Routes, stop: Move, given: &Instance) -> Option<Insertion>
+fn look_over(routes: EachRoute, stop: Move, given: &Instance) -> Option<Insertion>
     requires asked { Asked (of_instance given.now) stop }
-    requires room { Room given.now.fleet.net.roads.size routes.now }
-    ensures { result ≡ look_over (of_instance given.now) stop.c stop.added stop.saved (plan_of routes.now) }
+    requires room { Room given.now.fleet.net.roads.size routes.lengths.now routes.stops.now }
+    ensures { result ≡ look_over (of_instance given.now) stop.c stop.added stop.saved (routes_left routes.entry) }
 {
     let mut best = None;
-    for (k, route) in routes.each().enumerate() {
+    for (k, route) in routes.enumerate() {
         best = look_through(route, k, best, stop, given);
     }
     best
 }
 
 // The first candidate by cost that passes the check, where all before it and itself cost less than what is left to save.
-pub fn place(routes: &Routes, stop: Move, given: &Instance) -> Option<Insertion>
+pub fn place(routes: EachRoute, stop: Move, given: &Instance) -> Option<Insertion>
     requires asked { Asked (of_instance given.now) stop }
-    requires room { Room given.now.fleet.net.roads.size routes.now }
-    ensures { result ≡ first_passing (of_instance given.now) (plan_of routes.now) stop.c stop.added stop.saved
-        (by_cost (candidates (of_instance given.now) stop.c (plan_of routes.now))) }
+    requires room { Room given.now.fleet.net.roads.size routes.lengths.now routes.stops.now }
+    ensures { result ≡ first_passing (of_instance given.now) (routes_left routes.entry) stop.c stop.added stop.saved
+        (by_cost (candidates (of_instance given.now) stop.c (routes_left routes.entry))) }
 {
     let found = look_over(routes, stop, given)?;
     if stop.added + found.cost >= stop.saved {

@@ -2,9 +2,7 @@
 use Rattle.std.specs.Prelude.{ℕ, ◌<◌, List, [], length}
 use Rattle.reinsertion_worth.specs.laws.All.{All}
 use Rattle.reinsertion_worth.specs.models.Problem.{Problem, Stops, problem_of}
-use Rattle.reinsertion_worth.specs.plan.Plan.{total}
-use Rattle.reinsertion_worth.specs.plan.Given.{plan_of}
-use Rattle.reinsertion_worth.specs.plan.declared.routes.Routes.{Routes}
+use Rattle.reinsertion_worth.specs.plan.Plan.{split, total}
 use Rattle.reinsertion_candidates.specs.declared.Move.{Move}
 
 -- a stop that is to be moved, of a problem that a search is given
@@ -27,7 +25,7 @@ module _ (p : Problem) where
         few = f;
       }
 
--- lent routes with a plan of fewer stops than there can be places
-pub record Room (n : ℕ) (lent : Routes) : Type 0 where
-  pub routes : All (Stops n) (plan_of lent)
-  pub few : total lent.lengths.now < 256
+-- two slices with a plan of fewer stops than there can be places
+pub record Room (n : ℕ) (lengths stops : List ℕ) : Type 0 where
+  pub routes : All (Stops n) (split lengths stops)
+  pub few : total lengths < 256

@@ -10,7 +10,9 @@ ghost use Rattle.route_worth.specs.evaluation.Eval.{effective_cost};
 ghost use Rattle.reinsertion_worth.specs.Worth.{worth, insertion_worth, current};
 ghost use Rattle.route_worth.specs.evaluation.Given.{of_fleet};
 
-use insertion_cost::{insert_at, insertion_cost, route_cost_route_distance as route_distance};
+use insertion_cost::{
+    copy_cells, insert_at, insertion_cost, route_cost_route_distance as route_distance,
+};
 use route_worth::{RouteLimits, effective_cost};
 
 // Of the crates below, passed on to those above.
@@ -54,7 +56,7 @@ fn build_trial<'a>(trial: &'a mut [u16], route: &[u16], pos: usize, c: usize) ->
     ensures { result.now ≡ insert_at pos c route.now }
 {
     let end = route.len();
-    trial[..end].copy_from_slice(route);
+    copy_cells(&mut trial[..end], route);
     insert_at(&mut trial[..end + 1], pos, c as u16);
     &trial[..end + 1]
 }

@@ -2,6 +2,8 @@
 // ones, bit for bit. The input is the number of cases and the cases (cases.rt), numbers in decimal. README.md says how it is made.
 #![tactic(auto)]
 
+ghost use Rattle.std.specs.Prelude.{◌≡◌, length};
+
 mod cases;
 
 use cases::case_at;
@@ -10,6 +12,13 @@ use room::zeros;
 
 // Room for the input: half a megabyte.
 const INPUT_ROOM: usize = 524288;
+
+// This room, empty.
+fn input_room() -> [u8; INPUT_ROOM]
+    ensures { length result ≡ 524288 }
+{
+    zeros()
+}
 
 // Replays the cases of a text.
 fn replay(text: &[u8]) {
@@ -33,7 +42,7 @@ fn replay(text: &[u8]) {
 }
 
 fn main() {
-    let mut text: [u8; INPUT_ROOM] = zeros();
+    let mut text = input_room();
     let n = io::read_full(0, &mut text);
     if n == INPUT_ROOM {
         print_too_long();

@@ -4,7 +4,7 @@
 // A slice is its count and its cells, an answer is seven numbers. (eliminate has limit and clock 0 and no tape, a question without a route an empty one.)
 #![tactic(auto)]
 
-ghost use Rattle.std.specs.Prelude.{◌≡◌, MatchOption};
+ghost use Rattle.std.specs.Prelude.{◌≡◌, MatchOption, length};
 ghost use Rattle.tally.specs.Tally.{Noted};
 
 use change_verdict::{Allowance, Change, change_agrees, change_asked};
@@ -30,6 +30,20 @@ const WORK: usize = 8704;
 
 // Room for the f64 work cells.
 const FLOAT_WORK: usize = 2560;
+
+// The u16 work cells, all 0.
+fn u16_cells() -> [u16; WORK]
+    ensures { length result ≡ 8704 }
+{
+    zeros()
+}
+
+// The f64 work cells, all 0.
+fn f64_cells() -> [f64; FLOAT_WORK]
+    ensures { length result ≡ 2560 }
+{
+    zeros()
+}
 
 // The next answer.
 fn answer_at(numbers: &mut Numbers) -> Option<Stored> {
@@ -100,8 +114,8 @@ fn change_with_cells(
     let mut tape_room = [0u64; TAPE];
     let tape = numbers.fill(&mut tape_room)?;
     let change = change_asked(kind, Allowance { tape, limit, clock })?;
-    let mut work: [u16; WORK] = zeros();
-    let mut cells: [f64; FLOAT_WORK] = zeros();
+    let mut work = u16_cells();
+    let mut cells = f64_cells();
     change_at(
         numbers,
         change,

@@ -15,7 +15,7 @@ pub use evaluation_laws::{
     evaluation_route_feasible, get, has_soft_windows, infinity, max, min, route_checks_needed,
     travel_time, trial_feasible,
 };
-pub use plan::{copy_part, each};
+pub use plan::{copy_cells, copy_part, each};
 
 // An insertion that a search has found: what it costs, the route, the position.
 #[derive(Clone, Copy)]

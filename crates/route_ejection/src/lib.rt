@@ -6,7 +6,7 @@ ghost use Rattle.ejection_positions.specs.ejection.Eject.{try_out, try_one, try_
 ghost use Rattle.ejection_positions.specs.models.Problem.{Stops};
 ghost use Rattle.ejection_positions.specs.evaluation.Given.{of_instance};
 
-use ejection_positions::{Out, fails_more, failure_sum, keep, try_left};
+use ejection_positions::{Out, fails_more, failure_sum, keep_part, try_left};
 
 // Of the crates below, passed on to those above.
 pub use ejection_positions::{
@@ -34,7 +34,7 @@ fn try_out(
     if fails_more(failed, best) {
         return best;
     }
-    let left = keep(work, route, i, j);
+    let left = keep_part(work, route, i, j);
     let out = Out {
         failed,
         route: k,

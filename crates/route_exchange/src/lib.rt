@@ -8,7 +8,7 @@ ghost use Rattle.exchanged_stops.specs.plan.Given.{plan_of, Becomes};
 use exchanged_stops::routes::{Position, Routes};
 
 // Of the crates below, passed on to those above.
-pub use exchanged_stops::{clear, copy_part, cut, routes};
+pub use exchanged_stops::{clear, copy_cells, copy_part, cut, offset, routes};
 
 // The tail of route a from its position and the tail of route b, a later one, are exchanged.
 fn exchange_in_order(routes: &mut Routes, work: &mut [u16], a: Position, b: Position)

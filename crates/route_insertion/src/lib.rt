@@ -31,7 +31,16 @@ fn try_positions(
 {
     let mut found = best;
     for pos in 0..=route.len() {
-        found = try_position(route, times, pos, c, k, found, fleet);
+        found = try_position(
+            route,
+            times.departures,
+            times.latest,
+            pos,
+            c,
+            k,
+            found,
+            fleet,
+        );
     }
     found
 }

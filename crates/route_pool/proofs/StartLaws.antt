@@ -1,16 +1,19 @@
 -- The pool at the start. Assumes nothing.
-use Prim.Native.Nat.{ℕ, ◌+◌, ◌≤◌}
-use mathlib.Core.Path.{◌≡◌, ap}
-use mathlib.Core.List.{List, []}
+use Prim.Native.Nat.{ℕ, ◌≤◌, ◌<◌}
+use mathlib.Core.Path.{◌≡◌}
+use mathlib.Core.List.{List}
 use native.Mathlib.Omega.{arith}
-use lib.ListN.{length}
-use Rattle.ejection_made.specs.plan.Plan.{route}
-use Rattle.ejection_made.specs.plan.Slices.{route_short}
-use Rattle.ejection_made.specs.plan.Given.{plan_of}
-use Rattle.ejection_made.specs.plan.declared.routes.Routes.{Routes}
-use Rattle.ejection_made.specs.Made.{Stack}
+use lib.ListN.{length, take}
+use lib.Seq.{length-take-le}
+use Rattle.ejection_made.specs.plan.Plan.{Lent, split, route, total}
+use Rattle.ejection_made.specs.plan.Slices.{length_route, route_within}
 
--- an empty pool has room for the stops of route r, as they are lent
-pub route_fits : (lent : Routes) (r : ℕ) {t : List ℕ} {pool : Stack} → t ≡ route r (plan_of lent) → length lent.stops.now ≤ 256
-    → pool.items ≡ [] → length pool.items + length t ≤ 256
-route_fits lent r e few none = omega (arith, ap length none, route_short lent.lengths.now lent.stops.now r e)
+-- a route has no more stops than the plan
+pub route_few : (ls s : List ℕ) (r : ℕ) → Lent ls s → r < length ls → length (route r (split ls s)) ≤ total ls
+route_few ls s r lent there = omega (arith, length_route ls s lent.inside r, route_within ls r there)
+
+-- and the slice that the plan lies in has as many from its first cell on
+pub route_there : (ls s : List ℕ) (r : ℕ) → Lent ls s → r < length ls → length (take (length (route r (split ls s))) s) ≡ length (route r (split ls s))
+route_there ls s r lent there = length-take-le (length (route r (split ls s))) s (omega (arith, route_few ls s r lent there, lent.inside))
+
+pub ruleset route_laws = (route_few, route_there)

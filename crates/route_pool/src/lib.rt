@@ -2,21 +2,24 @@
 #![tactic(auto)]
 
 ghost use Rattle.std.specs.Prelude.{◌≡◌, reverse, ◌<◌, ◌≤◌, length};
-ghost use Rattle.ejection_made.specs.plan.Plan.{route};
-ghost use Rattle.ejection_made.specs.plan.Given.{plan_of};
+ghost use Rattle.ejection_made.specs.plan.Plan.{route, total};
+ghost use Rattle.ejection_made.specs.plan.Given.{routes_left};
 ghost use Rattle.ejection_made.specs.Made.{pooled};
 
-use ejection_made::Pool;
-use ejection_made::routes::Routes;
+use ejection_made::ArrayVec;
+use ejection_made::routes::EachRoute;
 
 // The stops of route r wait, the last of them on top.
-pub fn to_pool(routes: &Routes, r: usize) -> Pool
-    requires there { r < length routes.now.lengths.now }
-    requires has_room { length routes.now.stops.now ≤ 256 }
-    ensures { pooled result ≡ reverse (route r (plan_of routes.now)) }
+#[tactic(auto, using(crate::proofs::StartLaws::route_laws))]
+pub fn to_pool<const N: usize>(routes: EachRoute, r: usize) -> ArrayVec<u16, N>
+    requires there { r < length routes.lengths.now }
+    requires has_room { total routes.lengths.now ≤ N }
+    ensures { pooled result ≡ reverse (route r (routes_left routes.entry)) }
 {
     let route = routes.route(r);
-    let mut pool = Pool::new();
-    pool.try_extend_from_slice(route).unwrap();
+    let mut pool = ArrayVec::new();
+    for c in route {
+        pool.push(*c);
+    }
     pool
 }

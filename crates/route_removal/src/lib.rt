@@ -9,7 +9,7 @@ ghost use Rattle.route_exchange.specs.plan.Given.{plan_of, Keeps};
 use route_exchange::routes::Routes;
 
 // Of the crates below, passed on to those above.
-pub use route_exchange::{copy_part, routes};
+pub use route_exchange::{copy_cells, copy_part, offset, routes};
 
 // Route k is taken out: every later length moves one place left and the last becomes 0, every later stop moves left by the route's length.
 pub fn erase_route(routes: &mut Routes, k: usize)

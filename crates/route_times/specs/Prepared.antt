@@ -1,5 +1,5 @@
 -- The departures and latest arrivals of a route in work cells, before its positions are tried. Assumes nothing.
-use Rattle.std.specs.Prelude.{ℕ, ◌≡◌, Bool, take}
+use Rattle.std.specs.Prelude.{ℕ, ◌≡◌, Bool, length, take}
 use Rattle.std.proofs.Math.Path.{refl, ap}
 use Rattle.std.proofs.Common.{sym, ◌∙◌, true≢false}
 use Rattle.std.proofs.Math.Bool.{true, false}
@@ -14,6 +14,13 @@ use Rattle.route_times.specs.declared.Times.{Times as Cells}
 -- the departures and the latest arrivals of a route of m stops: each in the first m of its cells
 abbrev pub held : ℕ → Cells → Times
 held m cells = record { departures = take m cells.departures.now; latest = take m cells.latest.now }
+
+-- The two slices are still the same ones.
+pub record Keeps (old new : Cells) : Type 0 where
+  pub same_departures : new.departures.ghost_name ≡ old.departures.ghost_name
+  pub same_latest : new.latest.ghost_name ≡ old.latest.ghost_name
+  pub departures_count : length new.departures.now ≡ length old.departures.now
+  pub latest_count : length new.latest.now ≡ length old.latest.now
 
 -- Where the check is needed, r is false if the departures miss a window, and else these are the times. Where it is not, r is true.
 pub record Prepared (p : Problem) (route : List ℕ) (r : Bool) (t : Times) : Type 0 where

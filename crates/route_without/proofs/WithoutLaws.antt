@@ -1,6 +1,6 @@
 -- The plan without route r: the pool runs on it, and what is left of both slices. Assumes nothing.
 use Prim.Native.Nat.{ℕ, zero, suc, ◌-◌, ◌≤◌, ◌<◌}
-use mathlib.Core.Path.{◌≡◌, ap, ◌∙◌}
+use mathlib.Core.Path.{◌≡◌, sym, ap, ◌∙◌}
 use mathlib.Core.List.{List, [], ◌∷◌, ◌++◌, reverse}
 use Rattle.std.proofs.Common.{Result}
 use native.Mathlib.Omega.{arith}
@@ -10,11 +10,12 @@ use lib.Ieee.{Float}
 use Rattle.route_removal.specs.laws.Counts.{count_reverse}
 use Rattle.route_removal.specs.laws.Edits.{erase}
 use Rattle.pool_attempt.specs.models.Problem.{Problem}
-use Rattle.route_removal.specs.plan.Plan.{Holds, Lent, split, flat, route, total}
-use Rattle.route_removal.specs.plan.Given.{plan_of, Keeps}
+use Rattle.route_removal.specs.plan.Plan.{Holds, Lent, split, flat, lengths_of, route, total}
+use Rattle.route_removal.specs.plan.Given.{plan_of, routes_left, Keeps}
+use Rattle.route_removal.specs.plan.declared.each.EachRoute.{EachRoute}
 use Rattle.route_removal.specs.plan.declared.routes.Routes.{Routes}
 use Rattle.route_removal.specs.plan.Routes.{number_erase, occurs_erase}
-use Rattle.route_removal.specs.plan.Slices.{length_split, flat_split_all, total_append}
+use Rattle.route_removal.specs.plan.Slices.{length_split, lengths_split, flat_split_all, total_append}
 use Rattle.pool_attempt.specs.local_search.declared.rounds.Counts.{Counts}
 use Rattle.pool_attempt.specs.route_cost.Route.{cost}
 use Rattle.pool_attempt.specs.local_search.Search.{EndsWith0, but_last}
@@ -24,6 +25,19 @@ use Rattle.pool_attempt.specs.pool_cost.Attempt.{attempt}
 use Rattle.pool_attempt.specs.ejection_pool.Running.{Running, state}
 use Rattle.pool_attempt.specs.Judged.{tried, judged}
 use Rattle.route_without.specs.Attempting.{Attempting}
+
+-- the routes of a plan, lent to be read
+module _ (w : EachRoute) (r : Routes) (e : routes_left w ≡ plan_of r) where
+  pub left_there : (k : ℕ) → k < length r.lengths.now → k < length w.lengths.now
+  left_there k h = rw (← length_split w.lengths.now w.stops.now, e, length_split r.lengths.now r.stops.now) h
+
+  left_same : total w.lengths.now ≡ total r.lengths.now
+  left_same =
+      sym (ap total (lengths_split w.lengths.now w.stops.now w.lent.inside)) ∙ ap (λ (plan : List (List ℕ)). total (lengths_of plan)) e
+      ∙ ap total (lengths_split r.lengths.now r.stops.now r.lent.inside)
+
+  pub left_few : {p : Problem} {limit : ℕ} {counted : Counts} → Attempting p limit r counted → total w.lengths.now ≤ 256
+  left_few g = omega (arith, left_same, g.whole, g.few)
 
 -- `new` is what `erase_route` leaves of `old`, of whose lengths the first m are lent; the pool has the route's stops
 module _ {p : Problem} {limit : ℕ} {old : Routes} {counted : Counts} (r : ℕ)

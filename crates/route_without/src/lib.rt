@@ -12,7 +12,7 @@ ghost use Rattle.pool_attempt.specs.Judged.{tried};
 ghost use Rattle.route_without.specs.Attempting.{Attempting};
 
 use pool_attempt::routes::Routes;
-use pool_attempt::try_rest;
+use pool_attempt::{Pool, try_rest};
 use route_pool::to_pool;
 use route_removal::erase_route;
 
@@ -38,7 +38,7 @@ pub fn try_without(
     ensures held { EndsWith0 routes.new.lengths.now routes.new.stops.now }
     ensures kept { Keeps routes.old routes.new }
 {
-    let mut pool = to_pool(routes, r);
+    let mut pool: Pool = to_pool(routes.each(), r);
     erase_route(routes, r);
     let rest = routes.lengths.len() - 1;
     try_rest(

@@ -14,7 +14,7 @@ use sheet_elimination::list_eliminated;
 
 // Of the crates below, passed on to those above.
 pub use minimise_call::{Allowance, Customers, DistanceMatrix, Problem};
-pub use sheet_elimination::{Refusal, put_refusal};
+pub use sheet_elimination::{Page, Refusal, put_refusal, put_refused};
 
 // Minimises, then eliminates.
 pub fn list_planned(
@@ -38,6 +38,6 @@ pub fn list_planned(
             let counts = d.counts;
             list_eliminated(out, lengths, stops, work, cells, counts, given, problem)
         }
-        Err(refusal) => put_refusal(out, refusal),
+        Err(refusal) => put_refused(out, refusal),
     }
 }

@@ -2,14 +2,21 @@
 // README.md says how it is made. What must be printed is the original's answer to each.
 #![tactic(auto)]
 
-ghost use Rattle.std.specs.Prelude.{◌<◌, length, IfSome};
+ghost use Rattle.std.specs.Prelude.{◌≡◌, ◌<◌, length, IfSome};
 
 use room::zeros;
-use sheet_print::{LISTING_ROOM, STDOUT, print_sheet};
+use sheet_print::{STDOUT, listing_room, print_sheet};
 use stored::Numbers;
 
 // Room for the sheets.
 const CASES_ROOM: usize = 131072;
+
+// This room, empty.
+fn cases_room() -> [u8; CASES_ROOM]
+    ensures { length result ≡ 131072 }
+{
+    zeros()
+}
 
 // The sheet's number of bytes is not there, or is not that of what follows.
 fn print_fault() {
@@ -32,7 +39,7 @@ fn sheet_at<'a>(numbers: &mut Numbers<'a>) -> Option<&'a [u8]>
 
 // Prints what each sheet prints.
 fn print_cases(text: &[u8]) {
-    let mut out: [u8; LISTING_ROOM] = zeros();
+    let mut out = listing_room();
     let mut numbers = Numbers { rest: text };
     while !numbers.rest.is_empty() {
         let Some(sheet) = sheet_at(&mut numbers) else {
@@ -44,7 +51,7 @@ fn print_cases(text: &[u8]) {
 }
 
 fn main() {
-    let mut text: [u8; CASES_ROOM] = zeros();
+    let mut text = cases_room();
     let n = io::read_full(0, &mut text);
     print_cases(&text[..n]);
 }

@@ -14,7 +14,7 @@ use listing_whole::each::EachRoute;
 use listing_whole::put_listing;
 
 // Of the crates below, passed on to those above.
-pub use listing_whole::{Refusal, put_refusal};
+pub use listing_whole::{Page, Refusal, put_refusal, put_refused};
 
 // Eliminates and lists what is left, with the counts of the call before.
 pub fn list_eliminated(
@@ -41,6 +41,6 @@ pub fn list_eliminated(
             };
             put_listing(out, routes, counts, given, problem)
         }
-        Err(refusal) => put_refusal(out, refusal),
+        Err(refusal) => put_refused(out, refusal),
     }
 }

@@ -6,7 +6,7 @@ ghost use Rattle.sheet_parts.specs.sheet_reader.Cells.{of_columns, Room as Colum
 ghost use Rattle.sheet_parts.specs.listing.Written.{Written};
 ghost use Rattle.sheet_parts.specs.sheet_answers.Printed.{printed};
 
-use sheet_parts::{list_parts, put_refusal, sheet_whole_sheet as sheet};
+use sheet_parts::{list_parts, put_refused, sheet_whole_sheet as sheet};
 
 // Of the crates below, passed on to those above.
 pub use sheet_parts::Columns;
@@ -32,7 +32,7 @@ pub fn list_read(
     ensures kept { Keeps columns.old columns.new }
 {
     match sheet(lengths, stops, tape, columns, distances, times, text) {
-        Err(refusal) => put_refusal(out, refusal),
+        Err(refusal) => put_refused(out, refusal),
         Ok((read, _)) => list_parts(
             out, lengths, stops, work, cells, tape, columns, distances, times, read,
         ),

@@ -12,7 +12,7 @@ use sheet_calls::{Allowance, Customers, DistanceMatrix, Problem, list_planned};
 use sheet_whole::parts::Sheet;
 
 // Of the crates below, passed on to those above.
-pub use sheet_calls::{Refusal, put_refusal};
+pub use sheet_calls::{Page, Refusal, put_refusal, put_refused};
 pub use sheet_whole::Columns;
 pub use sheet_whole::sheet::sheet as sheet_whole_sheet;
 

@@ -10,7 +10,8 @@ use Rattle.perturbation.specs.models.Problem.{Problem, of_demand, Stops, problem
 use Rattle.exchanged_stops.specs.laws.All.{all_get}
 use Rattle.exchanged_stops.specs.plan.Plan.{Plan, HasStop, route, total, exchange_stops}
 use Rattle.exchanged_stops.specs.plan.Slices.{length_split, stop_route}
-use Rattle.exchanged_stops.specs.plan.Given.{plan_of, Becomes, keeps_on}
+use Rattle.exchanged_stops.specs.plan.Given.{plan_of, routes_left, Becomes, keeps_on}
+use Rattle.exchanged_stops.specs.plan.declared.each.EachRoute.{EachRoute}
 use Rattle.exchanged_stops.specs.PlanRoutes.{Routes}
 use Rattle.exchanged_stops.specs.PlanExchanges.{occurs_exchange_stops, number_exchange_stops, first_stop_still, second_stop_still, exchange_stops_twice}
 use Rattle.perturbation.specs.route_load.Feasible.{load, fits, checked, feasible}
@@ -19,8 +20,12 @@ use Rattle.perturbation.specs.Perturb.{stands, try_exchange}
 
 -- ---- route k, as it is lent
 
-pub route_stops : (n : ℕ) (r : Routes) (k : ℕ) {t : List ℕ} → k < length r.lengths.now → Planned n (plan_of r) → t ≡ route k (plan_of r) → Stops n t
-route_stops n r k h p e = rw e (all_get k [] (planned_stops n (plan_of r) p) (rw (length_split r.lengths.now r.stops.now) h))
+pub route_stops : (n : ℕ) (r : EachRoute) (k : ℕ) {t : List ℕ} → k < length r.lengths.now → Planned n (routes_left r) → t ≡ route k (routes_left r) → Stops n t
+route_stops n r k h p e = rw e (all_get k [] (planned_stops n (routes_left r) p) (rw (length_split r.lengths.now r.stops.now) h))
+
+-- the routes of r, lent to be read
+pub left_there : (w : EachRoute) (r : Routes) (k : ℕ) → routes_left w ≡ plan_of r → k < length r.lengths.now → k < length w.lengths.now
+left_there w r k e h = rw (← length_split w.lengths.now w.stops.now, e, length_split r.lengths.now r.stops.now) h
 
 -- ---- two routes stand where both loads are within capacity and both pass the check
 

@@ -15,7 +15,7 @@ use exchanged_stops::routes::{Position, Routes};
 pub mod check;
 
 // Of the crates below, passed on to those above.
-pub use exchanged_stops::routes;
+pub use exchanged_stops::{copy_cells, routes};
 pub use perturbation::draws::{Draws, other_than};
 pub use perturbation::{Demand, Instance, Sought, Vehicle, eject, feasible, within_capacity};
 
@@ -30,7 +30,7 @@ pub fn try_exchange(routes: &mut Routes, a: Position, b: Position, given: &Insta
         routes.new }
 {
     exchange_stops(routes, a, b);
-    if !both_feasible(routes, a.route, b.route, given) {
+    if !both_feasible(routes.each(), a.route, b.route, given) {
         exchange_stops(routes, a, b); // back
     }
 }

@@ -22,14 +22,14 @@ pub use reinsertion::{
 // The stop goes to its place. What was then added to the worth of the other routes; none where it has no place, and the plan is as it was.
 pub fn move_stop(routes: &mut Routes, stop: Move, given: &Instance) -> Option<f64>
     requires asked { Asked (of_instance given.now) stop }
-    requires room { Room given.now.fleet.net.roads.size routes.old }
+    requires room { Room given.now.fleet.net.roads.size routes.old.lengths.now routes.old.stops.now }
     requires free { total routes.old.lengths.now < length routes.old.stops.now }
     ensures moved { held_by result (plan_of routes.new) ≡ move_stop (of_instance given.now) stop.saved
         (so_far (plan_of routes.old) stop.added) stop.c }
     ensures grown { Kept given.now.fleet.net.roads.size result (total routes.old.lengths.now + 1) routes.new }
     ensures kept { Keeps routes.old routes.new }
 {
-    let found = place(routes, stop, given)?;
+    let found = place(routes.each(), stop, given)?;
     routes.put_in(found.route, found.pos, stop.c as u16);
     Some(stop.added + found.cost)
 }

@@ -1,13 +1,16 @@
 -- Two tails exchanged in a plan in two slices: laws from the facts that the code has where it needs them. Assumes nothing.
-use Prim.Native.Nat.{ℕ}
+use Prim.Native.Nat.{ℕ, ◌≤◌}
+use native.Mathlib.Omega.{arith}
 use mathlib.Core.Path.{◌≡◌, refl, sym, ap, ◌∙◌}
 use mathlib.Core.Bool.{Bool, true, false, cond, ◌&&◌}
-use mathlib.Core.List.{◌++◌}
-use lib.ListN.{take, drop}
+use mathlib.Core.List.{List, ◌++◌}
+use lib.ListN.{length, take, drop}
 use Rattle.joined_tails.specs.models.Problem.{Problem, of_demand}
-use Rattle.route_exchange.specs.plan.Plan.{Plan, HasPosition, route, total, non_empty, exchange_tails}
-use Rattle.route_exchange.specs.plan.Given.{plan_of, Becomes, becomes_same}
+use Rattle.route_exchange.specs.plan.Plan.{Plan, HasPosition, lengths_of, route, total, non_empty, exchange_tails}
+use Rattle.route_exchange.specs.plan.Given.{plan_of, routes_left, Becomes, becomes_same}
+use Rattle.route_exchange.specs.plan.declared.each.EachRoute.{EachRoute}
 use Rattle.route_exchange.specs.plan.declared.routes.Routes.{Routes}
+use Rattle.route_exchange.specs.plan.Slices.{lengths_split}
 use Rattle.route_exchange.specs.PlanExchanges.{first_exchange_tails, second_exchange_tails}
 use Rattle.joined_tails.specs.route_load.Feasible.{load, fits, feasible}
 use Rattle.joined_tails.specs.perturbation.Perturb.{try_tails}
@@ -48,6 +51,14 @@ module _ (p : Problem) (a i b j : ℕ) (plan : Plan)
     joined_decides f x ex = ex ∙ sym (ap (λ (t : Bool). joined_stands whole_problem a i b j plan && t) (sym ew ∙ f) ∙ and_true (joined_stands whole_problem a i b j plan))
 
 pub ruleset both_laws = (joined_heavy, joined_falls, joined_decides)
+
+-- the routes of r, lent to be read, are as many stops
+pub left_fits : (w : EachRoute) (r : Routes) (work : List ℕ) → routes_left w ≡ plan_of r → length r.stops.now ≤ length work → total w.lengths.now ≤ length work
+left_fits w r work e h =
+    let same : total w.lengths.now ≡ total r.lengths.now =
+    sym (ap total (lengths_split w.lengths.now w.stops.now w.lent.inside)) ∙ ap (λ (plan : Plan). total (lengths_of plan)) e
+    ∙ ap total (lengths_split r.lengths.now r.stops.now r.lent.inside) in
+    omega (arith, same, r.lent.inside, h)
 
 same_tests : (a b c d : Bool) {A : Type 0} (x y : A) → cond (a && c) (cond (b && d) x y) y ≡ cond ((a && b) && (c && d)) x y
 same_tests true true c d x y = go c

@@ -12,8 +12,8 @@ use latest_times::{infinity, latest_arrival, leave};
 // Of the crates below, passed on to those above.
 pub use latest_times::{
     Counts, Demand, DistanceMatrix, Fleet, Insertion, Instance, LocalSearchNext, Network, Pick,
-    Reduction, Vehicle, checked, constrained, copy_part, feasible, has_room, insertion_cost,
-    may_fit, pick_after, rounds, routes, trial_ok, within_capacity,
+    Reduction, Vehicle, checked, constrained, copy_cells, copy_part, feasible, has_room,
+    insertion_cost, may_fit, pick_after, rounds, routes, trial_ok, within_capacity,
 };
 
 // The time each stop of a route is left goes to the first cells; false where one is reached after its window closes.

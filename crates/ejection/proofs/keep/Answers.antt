@@ -2,5 +2,5 @@
 use Rattle.ejection.proofs.EjectLaws.{kept_copied}
 use Rattle.ejection.proofs.keep.Goals as goal
 
-pub returns : goal.returns
-returns c = kept_copied _ _ _ _ _ _ _ _ c.requires.places.0 c.requires.places.1 c.saturating_sub-between.ensures c.copy_part.ensures c.copy_part-2.ensures c.copy_part-3.ensures
+pub returns-clause-cells : goal.returns-clause-cells
+returns-clause-cells c = kept_copied _ _ _ _ _ _ _ _ c.requires.places.0 c.requires.places.1 c.saturating_sub-between.ensures c.copy_part.ensures c.copy_part-2.ensures c.copy_part-3.ensures

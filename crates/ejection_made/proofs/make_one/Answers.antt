@@ -3,7 +3,7 @@ use Rattle.ejection_made.proofs.MakeLaws.{made_laws}
 use Rattle.ejection_made.proofs.make_one.Goals as goal
 
 pub replace-x-requires-clause-has_position : goal.replace-x-requires-clause-has_position
-replace-x-requires-clause-has_position c = search made_laws
+replace-x-requires-clause-has_position g c = search made_laws
 
 pub returns : goal.returns
-returns c = search made_laws
+returns g c = search made_laws

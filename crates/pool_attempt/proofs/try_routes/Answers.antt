@@ -9,10 +9,10 @@ returns-in_err-counts-clause-plan c =
     rw (p.1, p.2) (judged_failed _ _ _ _ _ _ c.empty_pool.ensures.plan c.in_err-counts.was)
 
 pub is_cheaper-requires-clause-stops : goal.is_cheaper-requires-clause-stops
-is_cheaper-requires-clause-stops c = done_stops _ c.requires c.empty_pool.ensures.plan c.in_ok-counts.was
+is_cheaper-requires-clause-stops c = rw c.each.ensures (done_stops _ c.requires c.empty_pool.ensures.plan c.in_ok-counts.was)
 
 pub returns-then-is_cheaper-clause-plan : goal.returns-then-is_cheaper-clause-plan
-returns-then-is_cheaper-clause-plan c = judged_cheaper _ _ _ _ _ _ c.empty_pool.ensures.plan c.in_ok-counts.was _ c.is_cheaper.ensures c.if-is_cheaper.true
+returns-then-is_cheaper-clause-plan c = judged_cheaper _ _ _ _ _ _ c.empty_pool.ensures.plan c.in_ok-counts.was _ (rw c.each.ensures at c.is_cheaper.ensures) c.if-is_cheaper.true
 
 pub returns-else-is_cheaper-clause-plan : goal.returns-else-is_cheaper-clause-plan
-returns-else-is_cheaper-clause-plan c = judged_dearer _ _ _ _ _ _ c.empty_pool.ensures.plan c.in_ok-counts.was _ c.is_cheaper.ensures c.if-is_cheaper.false
+returns-else-is_cheaper-clause-plan c = judged_dearer _ _ _ _ _ _ c.empty_pool.ensures.plan c.in_ok-counts.was _ (rw c.each.ensures at c.is_cheaper.ensures) c.if-is_cheaper.false

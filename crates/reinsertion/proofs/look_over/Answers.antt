@@ -13,7 +13,7 @@ pub look_through-best-requires : goal.look_through-best-requires
 look_through-best-requires c = (
   c.requires.asked,
   left_all _ _ _ _ c.loop-k.invariant.1 _ _ c.in-Some.ensures.steps.0 c.requires.room.routes,
-  left_all _ _ _ _ c.loop-k.invariant.1 _ _ c.in-Some.ensures.steps.0 (all_few _ _ c.args.routes.now.lent.inside c.requires.room.few),
+  left_all _ _ _ _ c.loop-k.invariant.1 _ _ c.in-Some.ensures.steps.0 (all_few _ _ c.args.routes.lent.inside c.requires.room.few),
 )
 
 pub loop-k-preserved : goal.loop-k-preserved

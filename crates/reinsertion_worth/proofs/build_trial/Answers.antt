@@ -3,4 +3,4 @@ use Rattle.reinsertion_worth.proofs.WorthLaws.{trial_built}
 use Rattle.reinsertion_worth.proofs.build_trial.Goals as goal
 
 pub returns : goal.returns
-returns c = trial_built _ _ _ _ _ c.requires.0 c.requires.1 c.copy_from_slice.ensures.after c.insert_at.ensures
+returns c = trial_built _ _ _ _ _ c.requires.0 c.requires.1 c.copy_cells.ensures c.insert_at.ensures

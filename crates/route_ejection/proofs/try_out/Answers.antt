@@ -7,8 +7,8 @@ pub returns-then-fails_more : goal.returns-then-fails_more
 returns-then-fails_more c = out_more _ _ _ _ _ _ _ _ _ _ c.failure_sum-failed.ensures c.fails_more.ensures c.if-fails_more.true
 
 pub try_left-requires-clause-stops : goal.try_left-requires-clause-stops
-try_left-requires-clause-stops c = rw c.keep-left.ensures (kept_stops _ _ _ _ c.requires.leave.0 c.requires.leave.1 c.requires.stops)
+try_left-requires-clause-stops c = rw c.keep_part-left.ensures (kept_stops _ _ _ _ c.requires.leave.0 c.requires.leave.1 c.requires.stops)
 
 pub returns : goal.returns
 returns c = out_tried _ _ _ _ _ _ _ _ _ _ c.failure_sum-failed.ensures c.fails_more.ensures _ c.if-fails_more.false
-    (rw c.keep-left.ensures at c.try_left.ensures)
+    (rw c.keep_part-left.ensures at c.try_left.ensures)

@@ -3,8 +3,8 @@ use Rattle.route_load.specs.Feasible.{has_room}
 use Rattle.route_load.proofs.FeasibleLaws.{load_laws}
 use Rattle.route_load.proofs.has_room.Goals as goal
 
-pub overflow_add-result : goal.overflow_add-result
-overflow_add-result c = search load_laws
+pub has_room_for-requires-clause-small : goal.has_room_for-requires-clause-small
+has_room_for-requires-clause-small c = search load_laws
 
 pub returns : goal.returns
 unfolding has_room

@@ -6,7 +6,7 @@ pub route-requires : goal.route-requires
 route-requires c = c.requires.there
 
 pub worth-own-requires : goal.worth-own-requires
-worth-own-requires c = part_stops _ c.args.routes.now _ c.route.ensures c.requires
+worth-own-requires c = part_stops c.args.routes _ c.route.ensures c.requires.stops
 
 pub returns : goal.returns
-returns c = saved_is _ c.args.routes.now _ c.route.ensures _ _ c.worth-own.ensures c.fixed_cost_in_distance.ensures
+returns c = saved_is c.args.routes _ c.route.ensures _ _ _ c.worth-own.ensures c.fixed_cost_in_distance.ensures

@@ -8,8 +8,8 @@ use Rattle.sheet_elimination.proofs.list_eliminated.Goals as goal
 pub returns-in-Ok : goal.returns-in-Ok
 returns-in-Ok c = written_as c.put_listing.ensures (eliminate_lists _ _ _ _ _ _ _ c.eliminate-e.ensures.reply c.requires.in_bounds.3 c.requires.in_bounds.4 _ _ _ c.in-Ok.is)
 
-pub put_refusal-requires : goal.put_refusal-requires
-put_refusal-requires c = refusal_room _ _ c.requires.in_bounds.0
+pub put_refused-requires : goal.put_refused-requires
+put_refused-requires c = refusal_room _ _ c.requires.in_bounds.0
 
 pub slice_bounds-routes-end : goal.slice_bounds-routes-end
 slice_bounds-routes-end c = routes_there _ _ _ _ _ _ _ c.eliminate-e.ensures.reply c.requires.in_bounds.3 c.requires.in_bounds.4 c.args.counts c.args.given _ c.in-Ok.is c.eliminate-e.auto.lengths
@@ -24,4 +24,4 @@ pub put_listing-requires : goal.put_listing-requires
 put_listing-requires c = let w = eliminate_asks _ _ _ _ _ _ _ c.eliminate-e.ensures.reply c.requires.in_bounds.3 c.requires.in_bounds.4 _ _ _ c.in-Ok.is c.requires.short (omega (arith, c.eliminate-e.auto.lengths, c.requires.in_bounds.1)) (omega (arith, c.eliminate-e.auto.stops, c.requires.in_bounds.2)) _ c.requires.in_bounds.0 in record { room = w.0; few = w.1.0.0; cells = w.1.0.1; depot_in = w.1.1.0.0; demands = w.1.1.0.1; stops = w.1.1.1.0; prints = w.1.1.1.1 }
 
 pub returns-in-Err : goal.returns-in-Err
-returns-in-Err c = written_as c.put_refusal.ensures (eliminate_refuses _ _ _ _ _ _ _ c.eliminate-e.ensures.reply c.requires.in_bounds.3 c.requires.in_bounds.4 _ _ _ c.in-Err.is)
+returns-in-Err c = written_as c.put_refused.ensures (eliminate_refuses _ _ _ _ _ _ _ c.eliminate-e.ensures.reply c.requires.in_bounds.3 c.requires.in_bounds.4 _ _ _ c.in-Err.is)

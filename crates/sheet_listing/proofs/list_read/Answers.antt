@@ -7,8 +7,8 @@ use Rattle.sheet_parts.specs.SheetLawsRead.{sheet_holds}
 use Rattle.sheet_parts.specs.SheetAnswersListedLaws.{refusal_room, written_as, reader_refuses, reader_goes_on}
 use Rattle.sheet_listing.proofs.list_read.Goals as goal
 
-pub put_refusal-requires : goal.put_refusal-requires
-put_refusal-requires c = refusal_room _ _ c.requires.in_bounds.0
+pub put_refused-requires : goal.put_refused-requires
+put_refused-requires c = refusal_room _ _ c.requires.in_bounds.0
 
 pub list_parts-requires : goal.list_parts-requires
 list_parts-requires c = record {
@@ -21,7 +21,7 @@ list_parts-requires c = record {
 }
 
 pub returns-in-Err-clause-written : goal.returns-in-Err-clause-written
-returns-in-Err-clause-written c = written_as c.put_refusal.ensures (reader_refuses _ _ c.in-Err.ensures.result_after)
+returns-in-Err-clause-written c = written_as c.put_refused.ensures (reader_refuses _ _ c.in-Err.ensures.result_after)
 
 pub returns-in-Ok-clause-written : goal.returns-in-Ok-clause-written
 returns-in-Ok-clause-written c = written_as c.list_parts.ensures (reader_goes_on _ _ _ c.in-Ok.ensures.result_after)

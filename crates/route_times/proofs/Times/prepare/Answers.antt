@@ -2,5 +2,5 @@
 use Rattle.route_times.proofs.PrepareLaws.{prepared_made}
 use Rattle.route_times.proofs.Times.prepare.Goals as goal
 
-pub returns-then-fleet : goal.returns-then-fleet
-returns-then-fleet c = search prepared_made
+pub returns-then-fleet-clause-prepared : goal.returns-then-fleet-clause-prepared
+returns-then-fleet-clause-prepared c = search prepared_made

@@ -1,0 +1,3 @@
+-- Laws that this crate's proofs cite.
+-- cells that are copied
+pub mod CellLaws
